@@ -1,0 +1,190 @@
+-- The twelve cases of 01 as one table: what the definitions give, and what 01 says. Sheets are given by their cells, values by a run.
+use Prim.Native.Nat.{ℕ, _*_, _^_, _-_}
+use mathlib.Core.Path.{_≡_}
+use mathlib.Core.Bool.{false}
+use mathlib.Core.List.{List, [], _∷_, _++_, map}
+use lib.ListN.{length, getD, replicate}
+use Rattle.cells.specs.Cells.{bytesOf, minus, word}
+use Rattle.ir.specs.Function.{functionOf}
+use Rattle.x86.specs.declared.enums.Instruction.{Instruction}
+use Rattle.codegen.specs.Generation.{Outcome, accepted, refused, lowered, recordsAfter}
+use Rattle.machine.specs.Frames.{offset}
+use Rattle.machine.specs.Machine as x86
+use Rattle.machine.specs.Machine.{State, Choice}
+use Rattle.machine.specs.Steps as steps
+use Rattle.machine.specs.Simulation.{start}
+
+-- ---- cells
+
+abbrev pub fromCells : List ℕ → List ℕ
+fromCells [] = []
+fromCells (c ∷ cs) = bytesOf c ++ fromCells cs
+
+abbrev pub toCells : ℕ → List ℕ → List ℕ
+toCells Prim.Native.Nat.zero bs = []
+toCells (Prim.Native.Nat.suc n) bs = word bs 0 ∷ toCells n (lib.ListN.drop 8 bs)
+
+-- a sheet: header counts and return type none, then variable types, parameters and instructions
+abbrev pub sheet : ℕ → ℕ → ℕ → List ℕ → List ℕ
+sheet vars params instrs rest = fromCells (vars ∷ params ∷ 0 ∷ 0 ∷ minus 1 ∷ instrs ∷ rest)
+
+-- types: long, unsigned long, short, Bool, and arrays of Bytes
+abbrev pub long : List ℕ
+long = 1 ∷ minus 1 ∷ []
+
+abbrev pub unsignedLong : List ℕ
+unsignedLong = 2 ∷ minus 1 ∷ []
+
+abbrev pub short : List ℕ
+short = 3 ∷ minus 1 ∷ []
+
+abbrev pub bool : List ℕ
+bool = 7 ∷ minus 1 ∷ []
+
+abbrev pub byteArray : ℕ → List ℕ
+byteArray n = 9 ∷ n ∷ []
+
+-- operands: a variable, a signed constant that is short or long, float constant 0, nothing
+abbrev pub var : ℕ → List ℕ → List ℕ
+var id ty = 0 ∷ id ∷ ty
+
+abbrev pub int : ℕ → ℕ → List ℕ
+int v isShort = 1 ∷ v ∷ isShort ∷ 0 ∷ []
+
+abbrev pub float : List ℕ
+float = 2 ∷ 0 ∷ 0 ∷ 0 ∷ []
+
+abbrev pub nothing : List ℕ
+nothing = 0 ∷ 0 ∷ 0 ∷ 0 ∷ []
+
+-- an instruction: kind, operation, dest, left, right
+abbrev pub instr : ℕ → ℕ → List ℕ → List ℕ → List ℕ → List ℕ
+instr kind operation dest left right = kind ∷ operation ∷ dest ++ left ++ right
+
+abbrev pub noDest : List ℕ
+noDest = 0 ∷ 0 ∷ 0 ∷ []
+
+-- ---- what is asked of an answer
+
+-- no strings, one long float constant
+abbrev pub tables : List ℕ
+tables = fromCells (0 ∷ 0 ∷ [])
+
+-- into 64 KiB of record bytes
+abbrev pub answer : List ℕ → Outcome (List Instruction)
+answer s = lowered tables s 65536
+
+-- 0 and the record count, or number and place
+abbrev pub summary : Outcome (List Instruction) → List ℕ
+summary (accepted is) = 0 ∷ length is ∷ []
+summary (refused n place) = n ∷ place ∷ []
+
+abbrev pub listOf : Outcome (List Instruction) → List Instruction
+listOf (accepted is) = is
+listOf (refused n place) = []
+
+-- the cells of the records that are left
+abbrev pub cellsOf : List ℕ → List ℕ
+cellsOf s = toCells (8 * length (listOf (answer s))) (recordsAfter (answer s) [])
+
+-- the third record is `sub rsp, frame`
+abbrev pub frameOf : List ℕ → ℕ
+frameOf s = getD (cellsOf s) 21 0
+
+abbrev pub offsetsOf : List ℕ → List ℕ
+offsetsOf s = map (offset (functionOf s .vars)) (0 ∷ 1 ∷ 2 ∷ [])
+
+-- registers 1000 times their number, memory full of sevens
+abbrev pub entry : State
+entry =
+    record {
+      regs = λ r. 1000 * r;
+      mem = λ a. 7;
+      flags = record { zf = false; sf = false; cf = false; pf = false; ov = false; df = false };
+      links = λ b k. 0;
+      pos = 0;
+      status = x86.running;
+    }
+
+abbrev pub choice : ℕ → Choice
+choice m = record { flags = entry .flags; result = 0; regs = entry .regs; mem = entry .mem }
+
+abbrev pub valueOf : steps.Status → List ℕ
+valueOf steps.running = []
+valueOf steps.faulted = []
+valueOf steps.stuck = []
+valueOf (steps.returned n v) = n ∷ v ∷ []
+
+-- width and value that F returns after n steps, and RAX after m records
+abbrev pub returned : List ℕ → ℕ → ℕ → List ℕ
+returned s n m = valueOf (steps.run (functionOf s) n (start (functionOf s) entry) .status) ++ x86.run (listOf (answer s)) choice m entry .regs 0 ∷ []
+
+-- ---- the sheets
+
+abbrev pub listing : List ℕ
+listing = fromCells (1 ∷ 1 ∷ 0 ∷ 3 ∷ minus 1 ∷ 1 ∷ short ++ 0 ∷ short ++ instr 9 0 noDest (var 0 short) nothing)
+
+abbrev pub calling : List (List ℕ) → List ℕ
+calling args = sheet 0 0 1 (instr 5 0 noDest (0 ∷ length args ∷ 0 ∷ 0 ∷ []) nothing ++ concat args)
+  where
+    concat : List (List ℕ) → List ℕ
+    concat [] = []
+    concat (x ∷ xs) = x ++ concat xs
+
+abbrev pub lessThan : List ℕ → List ℕ
+lessThan ty = sheet 2 0 1 (bool ++ ty ++ instr 2 7 (0 ∷ bool) (var 1 ty) (var 1 ty))
+
+abbrev pub castShort : List ℕ
+castShort = sheet 1 0 2 (long ++ instr 3 0 (0 ∷ long) (int 4294967295 1) nothing ++ instr 9 0 noDest (var 0 long) nothing)
+
+abbrev pub shiftedBy : ℕ → List ℕ
+shiftedBy k = sheet 1 0 2 (short ++ instr 2 11 (0 ∷ short) (int 1 1) (int k 1) ++ instr 9 0 noDest (var 0 short) nothing)
+
+-- ---- the table
+
+pub record Case : Type 0 where
+  pub given : List ℕ
+  pub expected : List ℕ
+
+abbrev pub case : List ℕ → List ℕ → Case
+case a b = record { given = a; expected = b }
+
+abbrev pub cases : List Case
+cases =
+    -- the listing
+    case (cellsOf listing)
+    (14 ∷ 0 ∷ 1 ∷ 5 ∷ 0 ∷ 0 ∷ 0 ∷ 0
+    ∷ 0 ∷ 0 ∷ 1 ∷ 5 ∷ 1 ∷ 4 ∷ 0 ∷ 0
+    ∷ 0 ∷ 3 ∷ 1 ∷ 4 ∷ 2 ∷ 16 ∷ 0 ∷ 0
+    ∷ 0 ∷ 0 ∷ 5 ∷ minus 4 ∷ 1 ∷ 7 ∷ 4 ∷ 0
+    ∷ 0 ∷ 0 ∷ 1 ∷ 0 ∷ 5 ∷ minus 4 ∷ 4 ∷ 0
+    ∷ 0 ∷ 0 ∷ 1 ∷ 4 ∷ 1 ∷ 5 ∷ 0 ∷ 0
+    ∷ 14 ∷ 1 ∷ 1 ∷ 5 ∷ 0 ∷ 0 ∷ 0 ∷ 0
+    ∷ 6 ∷ 2 ∷ 0 ∷ 0 ∷ 0 ∷ 0 ∷ 0 ∷ 0 ∷ [])
+    -- no variables and no instructions: six records, frame 0
+    ∷ case (frameOf (sheet 0 0 0 []) ∷ summary (answer (sheet 0 0 0 []))) (0 ∷ 0 ∷ 6 ∷ [])
+    -- sizes 4, 1, 8: offsets 4, 5, 13, frame 16
+    ∷ case (frameOf (sheet 3 0 0 (short ++ bool ++ long)) ∷ offsetsOf (sheet 3 0 0 (short ++ bool ++ long))) (16 ∷ 4 ∷ 5 ∷ 13 ∷ [])
+    -- total 17: frame 32
+    ∷ case (frameOf (sheet 1 0 0 (byteArray 17)) ∷ []) (32 ∷ [])
+    -- sizes 4, 0, 4: offsets 4, 4, 8
+    ∷ case (offsetsOf (sheet 3 0 0 (short ++ byteArray 0 ++ short))) (4 ∷ 4 ∷ 8 ∷ [])
+    -- total 1,048,576 lowers, one more is 3, with the count cell that passes it
+    ∷ case (summary (answer (sheet 2 0 0 (byteArray 1048575 ++ bool))) ++ summary (answer (sheet 2 0 0 (byteArray 1048576 ++ bool)))) (0 ∷ 6 ∷ 3 ∷ 9 ∷ [])
+    -- six plain and eight float arguments lower, a seventh plain is 8
+    ∷ case (summary (answer (calling (replicate 6 (int 5 0) ++ replicate 8 float))) ++ summary (answer (calling (replicate 7 (int 5 0)))))
+    (0 ∷ 22 ∷ 8 ∷ 1 ∷ [])
+    -- logical And is 7
+    ∷ case (summary (answer (sheet 1 0 1 (bool ++ instr 2 1 (0 ∷ bool) (var 0 bool) (var 0 bool))))) (7 ∷ 1 ∷ [])
+    -- Lt on unsigned long uses code 8, on long 4: the operation of the seventh record, SetCC
+    ∷ case (getD (cellsOf (lessThan unsignedLong)) 49 0 ∷ getD (cellsOf (lessThan long)) 49 0 ∷ []) (8 ∷ 4 ∷ [])
+    -- short 4294967295 cast to long is -1
+    ∷ case (returned castShort 2 10) (8 ∷ minus 1 ∷ minus 1 ∷ [])
+    -- short 1 shifted left by 32 is 1, by 33 is 2
+    ∷ case (returned (shiftedBy 32) 2 11 ++ returned (shiftedBy 33) 2 11) (4 ∷ 1 ∷ 1 ∷ 4 ∷ 2 ∷ 2 ∷ [])
+    -- Return then Comment adds no second epilogue
+    ∷ case (summary (answer (sheet 0 0 2 (instr 9 0 noDest (int 0 0) nothing ++ instr 10 0 noDest nothing nothing)))) (0 ∷ 7 ∷ []) ∷ []
+
+-- what the definitions give is what 01 says, in every case
+abbrev pub Hold : Type 0
+Hold = map (λ (c : Case). c .given) cases ≡ map (λ (c : Case). c .expected) cases

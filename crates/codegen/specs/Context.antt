@@ -1,0 +1,37 @@
+-- What the code of a function needs to know besides its instructions: Krc's `Context` (codegen/generation.rs), and its look-ups.
+use Prim.Native.Nat.{ℕ}
+use mathlib.Core.List.{List}
+use mathlib.Core.Bool.{Bool, cond}
+use lib.ListN.{length, getD}
+use lib.Dec.{ltb}
+use Rattle.cells.specs.Cells.{minus}
+use Rattle.ir.specs.declared.«Type».{«Type» as IrType}
+use Rattle.ir.specs.Types.{Result, ok, refused}
+use Rattle.ir.specs.Function.{Tables}
+
+-- the tables, each variable's offset under RBP, the number of labels and the return type
+pub record Context : Type 0 where
+  pub tables : Tables
+  pub offsets : List ℕ
+  pub labels : ℕ
+  pub ret : IrType
+
+-- `-ctx.offsets[id]`: a variable's displacement from RBP, as a two's complement pattern
+unfoldable pub displacement : Context → ℕ → Result ℕ
+displacement ctx id = cond (ltb id (length (ctx .offsets))) (ok (minus (getD (ctx .offsets) id 0))) (refused 5)
+
+-- `ctx.data_names[id]`: a string of the tables
+unfoldable pub stringAt : Context → ℕ → Result ℕ
+stringAt ctx id = cond (ltb id (ctx .tables .strings)) (ok id) (refused 5)
+
+-- `ctx.float_names[id]`: a float constant of the tables
+unfoldable pub floatAt : Context → ℕ → Result ℕ
+floatAt ctx id = cond (ltb id (ctx .tables .floats)) (ok id) (refused 5)
+
+-- `ctx.floats[id].1`: whether it is short
+unfoldable pub floatShort : Context → ℕ → Result Bool
+floatShort ctx id = cond (ltb id (ctx .tables .floats)) (ok (ctx .tables .short id)) (refused 5)
+
+-- `ctx.labels[id]`
+unfoldable pub labelAt : Context → ℕ → Result ℕ
+labelAt ctx id = cond (ltb id (ctx .labels)) (ok id) (refused 5)

@@ -1,0 +1,76 @@
+-- Offsets, frame and prologue (Krc's codegen/generation.rs: `var_offsets`, `func_prologue`).
+use Prim.Native.Nat.{ℕ, suc, _+_, _*_, _/_}
+use mathlib.Core.List.{List, [], _∷_, _++_}
+use mathlib.Core.Bool.{Bool, true, false, cond, _&&_, not, Bool·beq}
+use lib.ListN.{length, getD}
+use lib.Dec.{ltb, eqb}
+use Rattle.ir.specs.declared.«Type».{«Type» as IrType}
+use Rattle.ir.specs.declared.VarId.{VarId}
+use Rattle.ir.specs.Types.{Result, ok, refused, _>>=_, elementWidth, offsetBehind, isFloat}
+use Rattle.x86.specs.declared.register.Register.{Register}
+use Rattle.x86.specs.declared.enums.Size.{Size}
+use Rattle.x86.specs.declared.enums.Operand.{Operand}
+use Rattle.x86.specs.declared.enums.BinOp.{BinOp}
+use Rattle.x86.specs.declared.enums.StackOp.{StackOp}
+use Rattle.x86.specs.declared.enums.Instruction.{Instruction}
+use Rattle.x86.specs.Registers.{RAX, RSP, RBP}
+use Rattle.codegen.specs.Context.{Context}
+use Rattle.codegen.specs.Utils.{varSize, convertVar}
+use Rattle.codegen.specs.Instructions.{move, paramRegs, paramFregs}
+
+-- ---- offsets
+
+-- the offset of each variable, where those before them end at `end`
+unfoldable pub offsetsFrom : ℕ → List IrType → List ℕ
+offsetsFrom end [] = []
+offsetsFrom end (t ∷ ts) = offsetBehind end t ∷ offsetsFrom (offsetBehind end t) ts
+
+-- the last offset: the total of the sizes
+unfoldable pub lastOffset : ℕ → List IrType → ℕ
+lastOffset end [] = end
+lastOffset end (t ∷ ts) = lastOffset (offsetBehind end t) ts
+
+abbrev pub total : List IrType → ℕ
+total vars = lastOffset 0 vars
+
+-- whether every variable has a width
+unfoldable pub haveWidths : List IrType → Bool
+haveWidths [] = true
+haveWidths (t ∷ ts) = not (eqb (elementWidth (t .code)) 0) && haveWidths ts
+
+unfoldable pub varOffsets : List IrType → Result (List ℕ)
+varOffsets vars = cond (haveWidths vars) (ok (offsetsFrom 0 vars)) (refused 4)
+
+-- ---- the prologue
+
+-- the sizes of the variables rounded up to 16
+abbrev pub frame : List IrType → ℕ
+frame vars = (total vars + 15) / 16 * 16
+
+-- the registers of the parameters that are floats, or of those that are not, and the record that stores one
+abbrev pub registersOf : Bool → List Register
+registersOf true = paramFregs
+registersOf false = paramRegs
+
+abbrev pub storeOf : Bool → BinOp
+storeOf true = BinOp.StoreF
+storeOf false = BinOp.Mov
+
+-- the stores of the parameters that are floats, or of those that are not, the first of them of rank k; those beyond the registers are not looked at
+unfoldable pub storeParams : Context → Bool → ℕ → List VarId → Result (List Instruction)
+storeParams ctx float k [] = ok []
+storeParams ctx float k (p ∷ ps) =
+    cond (Bool·beq (isFloat (p .ty)) float)
+    (cond (ltb k (length (registersOf float)))
+    (convertVar ctx p >>= λ var. varSize p >>= λ size. storeParams ctx float (suc k) ps >>= λ rest.
+    ok (Instruction.Binary (storeOf float) var (Operand.Reg (getD (registersOf float) k RAX)) size ∷ rest))
+    (ok []))
+    (storeParams ctx float k ps)
+
+-- `push rbp ; mov rbp, rsp ; sub rsp, frame`, then each parameter goes from its register into its slot
+unfoldable pub funcPrologue : Context → ℕ → List VarId → Result (List Instruction)
+funcPrologue ctx bytes params = do
+  words ← storeParams ctx false 0 params
+  floats ← storeParams ctx true 0 params
+  ok (Instruction.Stack StackOp.Push (Operand.Reg RBP) Size.NoSize ∷ move (Operand.Reg RBP) (Operand.Reg RSP) Size.NoSize
+      ∷ Instruction.Binary BinOp.Sub (Operand.Reg RSP) (Operand.Imm bytes) Size.NoSize ∷ words ++ floats)

@@ -1,0 +1,130 @@
+-- Krc's codegen/generation.rs: the list that `generate` holds for one function before `add_function`, or the first panic with its place.
+use Prim.Native.Nat.{ℕ, suc, _+_, _*_}
+use mathlib.Core.List.{List, [], _∷_, _++_}
+use mathlib.Core.Bool.{Bool, true, false, cond}
+use lib.ListN.{length, drop}
+use lib.Dec.{ltb}
+use Rattle.ir.specs.declared.Instr.{Instr}
+use Rattle.ir.specs.declared.Operand.{Operand as IrOp}
+use Rattle.ir.specs.declared.Checked.{Checked}
+use Rattle.ir.specs.Types as types
+use Rattle.ir.specs.Types.{Result, ok}
+use Rattle.ir.specs.Function.{Tables, Function, Line, binaryOp, tablesOf, functionOf}
+use Rattle.ir.specs.Layout.{tablesCheck, sheetCheck}
+use Rattle.x86.specs.declared.enums.CtrlOp.{CtrlOp}
+use Rattle.x86.specs.declared.enums.Operand.{Operand}
+use Rattle.x86.specs.declared.enums.Instruction.{Instruction}
+use Rattle.x86.specs.Records.{listBytes}
+use Rattle.codegen.specs.Context.{Context}
+use Rattle.codegen.specs.Instructions.{funcEpilogue, generateReturn, generateCopy, generateCast, generateZero, generateCall, generateJmpIfNot, generateLabel, generateJump}
+use Rattle.codegen.specs.Arithmetic.{generateBinary, generateUnary}
+use Rattle.codegen.specs.Frame.{varOffsets, frame, funcPrologue}
+
+-- ---- answers with a place: a cell, 0 before the body, the instruction's number from 1, or the records needed (01, "The turned-away slip")
+
+pub data Outcome (A : Type 0) : Type 0 where
+  accepted : A → Outcome A
+  refused : ℕ → ℕ → Outcome A
+
+infixl 20 _>>=_
+abbrev pub _>>=_ : {A B : Type 0} → Outcome A → (A → Outcome B) → Outcome B
+accepted a >>= f = f a
+refused n place >>= f = refused n place
+
+abbrev pub at : {A : Type 0} → ℕ → Result A → Outcome A
+at place (ok a) = accepted a
+at place (types.refused n) = refused n place
+
+-- ---- instructions
+
+-- `generate_instruction`; `args` are a call's arguments
+unfoldable pub generateInstr : Context → Instr → List IrOp → Result (List Instruction)
+generateInstr ctx (Instr.Copy dest src) args = generateCopy ctx dest src
+generateInstr ctx (Instr.Unary dest op src) args = generateUnary ctx dest op src
+generateInstr ctx (Instr.Binary dest op left right) args = generateBinary ctx dest (binaryOp op) left right
+generateInstr ctx (Instr.Cast dest src) args = generateCast ctx dest src
+generateInstr ctx (Instr.Zero dest) args = generateZero ctx dest
+generateInstr ctx (Instr.Call dest symbol count) args = generateCall ctx dest symbol args
+generateInstr ctx (Instr.Label l) args = generateLabel ctx l
+generateInstr ctx (Instr.Jump l) args = generateJump ctx l
+generateInstr ctx (Instr.JumpIfNot condition target) args = generateJmpIfNot ctx condition target
+generateInstr ctx (Instr.Return op) args = generateReturn ctx op
+generateInstr ctx Instr.Comment args = ok []
+
+abbrev pub generateInstruction : Context → Line → Result (List Instruction)
+generateInstruction ctx line = generateInstr ctx (line .instr) (line .args)
+
+-- the body, its first line of number i
+unfoldable pub generateBody : Context → ℕ → List Line → Outcome (List Instruction)
+generateBody ctx i [] = accepted []
+generateBody ctx i (line ∷ lines) = do
+  records ← at i (generateInstruction ctx line)
+  rest ← generateBody ctx (suc i) lines
+  accepted (records ++ rest)
+
+-- ---- the epilogue
+
+abbrev pub isRetOp : CtrlOp → Bool
+isRetOp CtrlOp.Jmp = false
+isRetOp CtrlOp.Call = false
+isRetOp CtrlOp.Ret = true
+isRetOp (CtrlOp.JmpCC cc) = false
+
+abbrev pub isRet : Instruction → Bool
+isRet (Instruction.Binary op dst src size) = false
+isRet (Instruction.ComplexBinary op dst src size) = false
+isRet (Instruction.Convert op dst src size) = false
+isRet (Instruction.Ctrl op target) = isRetOp op
+isRet (Instruction.Extend op dst src srcSize size) = false
+isRet (Instruction.Lea src dst size) = false
+isRet (Instruction.Label n) = false
+isRet (Instruction.Prefix prefix op size) = false
+isRet (Instruction.SetCC op dst) = false
+isRet (Instruction.Shift op dst src size) = false
+isRet (Instruction.Stack op value size) = false
+isRet (Instruction.Unary op dst size) = false
+
+-- whether the last record is Ret
+unfoldable pub endsInRet : List Instruction → Bool
+endsInRet [] = false
+endsInRet (i ∷ []) = isRet i
+endsInRet (i ∷ j ∷ is) = endsInRet (j ∷ is)
+
+-- `need_epilogue`: it is added unless the last record is Ret
+unfoldable pub withEpilogue : List Instruction → List Instruction
+withEpilogue is = cond (endsInRet is) is (is ++ funcEpilogue)
+
+-- ---- generate
+
+abbrev pub contextOf : Tables → Function → List ℕ → Context
+contextOf tables F offsets = record { tables = tables; offsets = offsets; labels = F .labels; ret = F .ret }
+
+unfoldable pub generate : Tables → Function → Outcome (List Instruction)
+generate tables F = do
+  offsets ← at 0 (varOffsets (F .vars))
+  prologue ← at 0 (funcPrologue (contextOf tables F offsets) (frame (F .vars)) (F .params))
+  body ← generateBody (contextOf tables F offsets) 1 (F .body)
+  accepted (withEpilogue (prologue ++ body))
+
+-- ---- the whole answer, for tables, sheet and the length of the record bytes
+
+-- what follows a layout that is right
+abbrev pub checked : {A : Type 0} → Checked → (Unit {0} → Outcome A) → Outcome A
+checked (Checked.Behind c) rest = rest tt
+checked (Checked.Refused n cell) rest = refused n cell
+
+-- refusals 1 to 8
+unfoldable pub compiled : List ℕ → List ℕ → Outcome (List Instruction)
+compiled tables sheet = checked (tablesCheck tables) (λ u. checked (sheetCheck sheet) (λ v. generate (tablesOf tables) (functionOf sheet)))
+
+-- page full: refusal 9 with the records needed, where the record bytes are fewer than 64 times the records
+abbrev pub page : ℕ → List Instruction → Outcome (List Instruction)
+page m is = cond (ltb m (64 * length is)) (refused 9 (length is)) (accepted is)
+
+unfoldable pub lowered : List ℕ → List ℕ → ℕ → Outcome (List Instruction)
+lowered tables sheet m = compiled tables sheet >>= page m
+
+-- the record bytes afterwards: the list at their start and their old content behind it, or their old content
+unfoldable pub recordsAfter : Outcome (List Instruction) → List ℕ → List ℕ
+recordsAfter (accepted is) old = listBytes is ++ drop (64 * length is) old
+recordsAfter (refused n place) old = old

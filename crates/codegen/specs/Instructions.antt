@@ -1,0 +1,199 @@
+-- Krc's codegen/instructions.rs, in the Rust's order of evaluation.
+use Prim.Native.Nat.{ℕ, suc, _+_}
+use mathlib.Core.List.{List, [], _∷_, _++_}
+use mathlib.Core.Bool.{Bool, true, false, cond, not, _&&_, _||_, Bool·beq}
+use lib.ListN.{length, getD}
+use lib.Dec.{eqb, leb, ltb}
+use Rattle.ir.specs.declared.VarId.{VarId}
+use Rattle.ir.specs.declared.Operand.{Operand as IrOp}
+use Rattle.ir.specs.declared.Dest.{Dest}
+use Rattle.ir.specs.Types.{Result, ok, refused, _>>=_, typeSize, isFloat, isUnsigned}
+use Rattle.x86.specs.declared.register.Register.{Register}
+use Rattle.x86.specs.declared.enums.Size.{Size}
+use Rattle.x86.specs.declared.enums.Operand.{Operand}
+use Rattle.x86.specs.declared.enums.BinOp.{BinOp}
+use Rattle.x86.specs.declared.enums.ConditionCode.{ConditionCode}
+use Rattle.x86.specs.declared.enums.CtrlOp.{CtrlOp}
+use Rattle.x86.specs.declared.enums.StackOp.{StackOp}
+use Rattle.x86.specs.declared.enums.StringOp.{StringOp}
+use Rattle.x86.specs.declared.enums.Prefix.{Prefix}
+use Rattle.x86.specs.declared.enums.ExtendOp.{ExtendOp}
+use Rattle.x86.specs.declared.enums.ConvOp.{ConvOp}
+use Rattle.x86.specs.declared.enums.Instruction.{Instruction}
+use Rattle.x86.specs.Registers.{xmm, RAX, RCX, RDX, RSP, RBP, RSI, RDI, R8, R9}
+use Rattle.codegen.specs.Context.{Context, floatShort, labelAt}
+use Rattle.codegen.specs.Utils.{sizeFrom, varSize, convertVar, convertOperand, loadOperand}
+
+-- Mov of a register into a variable's slot, or of RAX
+abbrev pub move : Operand → Operand → Size → Instruction
+move dst src size = Instruction.Binary BinOp.Mov dst src size
+
+-- `mov rsp, rbp ; pop rbp ; ret`
+abbrev pub funcEpilogue : List Instruction
+funcEpilogue =
+    move (Operand.Reg RSP) (Operand.Reg RBP) Size.NoSize ∷ Instruction.Stack StackOp.Pop (Operand.Reg RBP) Size.NoSize
+    ∷ Instruction.Ctrl CtrlOp.Ret Operand.NoOperand ∷ []
+
+-- the value comes back in XMM0 for a float return type, else in RAX
+unfoldable pub generateReturn : Context → IrOp → Result (List Instruction)
+generateReturn ctx op = loadOperand ctx (cond (isFloat (ctx .ret)) (xmm 0) RAX) op Size.NoSize >>= λ load. ok (load ∷ funcEpilogue)
+
+-- ---- operand_kind
+
+-- the size in bytes of an operand's value, whether it is a float, and whether it is unsigned
+pub record Kind : Type 0 where
+  pub size : ℕ
+  pub float : Bool
+  pub unsigned : Bool
+
+abbrev pub kind : ℕ → Bool → Bool → Kind
+kind n f u = record { size = n; float = f; unsigned = u }
+
+unfoldable pub operandKind : Context → IrOp → Result Kind
+operandKind ctx (IrOp.Var v) = typeSize (v .ty) >>= λ n. ok (kind n (isFloat (v .ty)) (isUnsigned (v .ty)))
+operandKind ctx (IrOp.Int n short unsigned) = ok (kind (cond short 4 8) false unsigned)
+operandKind ctx (IrOp.Float k) = floatShort ctx k >>= λ short. ok (kind (cond short 4 8) true false)
+operandKind ctx (IrOp.Bool b) = ok (kind 1 false true)
+operandKind ctx (IrOp.Address v) = ok (kind 8 false true)
+operandKind ctx (IrOp.DataAddress k) = ok (kind 8 false true)
+operandKind ctx IrOp.Null = ok (kind 8 false true)
+
+-- ---- copies and casts
+
+-- `dest = src`, sized by dest
+unfoldable pub generateCopy : Context → VarId → IrOp → Result (List Instruction)
+generateCopy ctx dest src = do
+  var ← convertVar ctx dest
+  size ← varSize dest
+  load ← loadOperand ctx RAX src size
+  ok (load ∷ move var (Operand.Reg RAX) size ∷ [])
+
+-- a cast's source where it is converted: the records that bring it there, the operand, and its size in bytes
+pub record Source : Type 0 where
+  pub records : List Instruction
+  pub operand : Operand
+  pub size : ℕ
+
+abbrev pub source : List Instruction → Operand → ℕ → Source
+source rs x n = record { records = rs; operand = x; size = n }
+
+-- a constant of a Cast goes through RAX: an integer at its own size, a Bool by four bytes
+unfoldable pub castOperand : Context → IrOp → ℕ → Result Source
+castOperand ctx (IrOp.Var v) n = convertVar ctx v >>= λ x. ok (source [] x n)
+castOperand ctx (IrOp.Int v short unsigned) n =
+    loadOperand ctx RAX (IrOp.Int v short unsigned) (cond short Size.U32 Size.U64) >>= λ load. ok (source (load ∷ []) (Operand.Reg RAX) (cond short 4 8))
+castOperand ctx (IrOp.Float k) n = convertOperand ctx (IrOp.Float k) >>= λ x. ok (source [] x n)
+castOperand ctx (IrOp.Bool b) n = loadOperand ctx RAX (IrOp.Bool b) Size.U8 >>= λ load. ok (source (load ∷ []) (Operand.Reg RAX) 1)
+castOperand ctx (IrOp.Address v) n = convertOperand ctx (IrOp.Address v) >>= λ x. ok (source [] x n)
+castOperand ctx (IrOp.DataAddress k) n = convertOperand ctx (IrOp.DataAddress k) >>= λ x. ok (source [] x n)
+castOperand ctx IrOp.Null n = convertOperand ctx IrOp.Null >>= λ x. ok (source [] x n)
+
+-- one byte that is no float is widened by Movzx first
+abbrev pub widened : Bool → Source → Source
+widened float s =
+    cond (not float && eqb (s .size) 1)
+    (source (s .records ++ Instruction.Extend ExtendOp.Movzx RAX (s .operand) Size.U8 Size.U64 ∷ []) (Operand.Reg RAX) 8) s
+
+-- a conversion and the store of its result
+abbrev pub converted : Context → VarId → Source → ConvOp → Register → Size → Result (List Instruction)
+converted ctx dest s op reg size = do
+  var ← convertVar ctx dest
+  stored ← varSize dest
+  ok (s .records ++ Instruction.Convert op reg (s .operand) size
+      ∷ Instruction.Binary (cond (isFloat (dest .ty)) BinOp.StoreF BinOp.Mov) var (Operand.Reg reg) stored ∷ [])
+
+-- between integers: RAX has eight bytes already, or Movsxd widens four
+abbrev pub extended : Context → VarId → Source → Result (List Instruction)
+extended ctx dest s = do
+  var ← convertVar ctx dest
+  size ← varSize dest
+  ok (s .records ++ cond (eqb (s .size) 8) [] (Instruction.Extend ExtendOp.Movsxd RAX (s .operand) Size.U32 Size.U64 ∷ []) ++ move var (Operand.Reg RAX) size ∷ [])
+
+-- by whether source and dest are floats, and dest's size
+unfoldable pub castBetween : Context → VarId → Source → Bool → Bool → ℕ → Result (List Instruction)
+castBetween ctx dest s true true n = converted ctx dest s (cond (eqb n 8) ConvOp.Cvtss2sd ConvOp.Cvtsd2ss) (xmm 0) Size.NoSize
+castBetween ctx dest s false true n = sizeFrom (s .size) >>= λ size. converted ctx dest s (cond (eqb n 8) ConvOp.Cvtsi2sd ConvOp.Cvtsi2ss) (xmm 0) size
+castBetween ctx dest s true false n = varSize dest >>= λ size. converted ctx dest s (cond (eqb (s .size) 8) ConvOp.Cvttsd2si ConvOp.Cvttss2si) RAX size
+castBetween ctx dest s false false n = extended ctx dest s
+
+-- the low bytes are enough: both are floats of one size, or both are integers and dest is no wider
+abbrev pub isCopy : Kind → Bool → ℕ → Bool
+isCopy k float n = (Bool·beq (k .float) float && (eqb (k .size) n || not float)) && leb n (k .size)
+
+unfoldable pub generateCast : Context → VarId → IrOp → Result (List Instruction)
+generateCast ctx dest src = do
+  k ← operandKind ctx src
+  n ← typeSize (dest .ty)
+  cond (isCopy k (isFloat (dest .ty)) n) (generateCopy ctx dest src)
+      (castOperand ctx src (k .size) >>= λ s. castBetween ctx dest (widened (k .float) s) (k .float) (isFloat (dest .ty)) n)
+
+-- ---- zero
+
+-- `lea rdi, [dest] ; mov rcx, size ; mov rax, 0 ; rep stosb`
+unfoldable pub generateZero : Context → VarId → Result (List Instruction)
+generateZero ctx dest = do
+  n ← typeSize (dest .ty)
+  var ← convertVar ctx dest
+  ok (Instruction.Lea var RDI Size.NoSize ∷ move (Operand.Reg RCX) (Operand.Imm n) Size.U64 ∷ move (Operand.Reg RAX) (Operand.Imm 0) Size.U64
+      ∷ Instruction.Prefix Prefix.Rep StringOp.Stos Size.U8 ∷ [])
+
+-- ---- calls
+
+-- `PARAM_REGS`: the registers of the arguments that are no floats
+abbrev pub paramRegs : List Register
+paramRegs = RDI ∷ RSI ∷ RDX ∷ RCX ∷ R8 ∷ R9 ∷ []
+
+-- `PARAM_FREGS`: those of the floats
+abbrev pub paramFregs : List Register
+paramFregs = xmm 0 ∷ xmm 1 ∷ xmm 2 ∷ xmm 3 ∷ xmm 4 ∷ xmm 5 ∷ xmm 6 ∷ xmm 7 ∷ []
+
+-- whether an argument goes into an XMM register
+abbrev pub floating : IrOp → Bool
+floating (IrOp.Var v) = isFloat (v .ty)
+floating (IrOp.Int n short unsigned) = false
+floating (IrOp.Float k) = true
+floating (IrOp.Bool b) = false
+floating (IrOp.Address v) = false
+floating (IrOp.DataAddress k) = false
+floating IrOp.Null = false
+
+-- `float_parameter` and `normal_param`: the argument of rank k into the register of its rank; refusal 8 where there is none
+unfoldable pub loadArgument : Context → List Register → ℕ → IrOp → Result Instruction
+loadArgument ctx regs k op = cond (ltb k (length regs)) (loadOperand ctx (getD regs k RAX) op Size.NoSize) (refused 8)
+
+-- the arguments in order, where i general and f XMM registers are taken; then the number of floats in RAX
+unfoldable pub loadArguments : Context → ℕ → ℕ → List IrOp → Result (List Instruction)
+loadArguments ctx i f [] = ok (move (Operand.Reg RAX) (Operand.Imm f) Size.NoSize ∷ [])
+loadArguments ctx i f (x ∷ xs) =
+    cond (floating x)
+    (loadArgument ctx paramFregs f x >>= λ load. loadArguments ctx i (suc f) xs >>= λ rest. ok (load ∷ rest))
+    (loadArgument ctx paramRegs i x >>= λ load. loadArguments ctx (suc i) f xs >>= λ rest. ok (load ∷ rest))
+
+-- the result is stored from XMM0 or RAX, if it is kept
+unfoldable pub storeResult : Context → Dest → Result (List Instruction)
+storeResult ctx Dest.Nothing = ok []
+storeResult ctx (Dest.Var v) = do
+  var ← convertVar ctx v
+  size ← varSize v
+  ok (cond (isFloat (v .ty)) (Instruction.Binary BinOp.StoreF var (Operand.Reg (xmm 0)) size) (move var (Operand.Reg RAX) size) ∷ [])
+
+unfoldable pub generateCall : Context → Dest → ℕ → List IrOp → Result (List Instruction)
+generateCall ctx dest symbol args = do
+  loads ← loadArguments ctx 0 0 args
+  store ← storeResult ctx dest
+  ok (loads ++ Instruction.Ctrl CtrlOp.Call (Operand.Sym symbol) ∷ store)
+
+-- ---- jumps
+
+-- `mov al, cond ; cmp al, 0 ; je target`
+unfoldable pub generateJmpIfNot : Context → IrOp → ℕ → Result (List Instruction)
+generateJmpIfNot ctx condition target = do
+  load ← loadOperand ctx RAX condition Size.U8
+  label ← labelAt ctx target
+  ok (load ∷ Instruction.Binary BinOp.Cmp (Operand.Reg RAX) (Operand.Imm 0) Size.U8 ∷ Instruction.Ctrl (CtrlOp.JmpCC ConditionCode.E) (Operand.Label label) ∷ [])
+
+unfoldable pub generateLabel : Context → ℕ → Result (List Instruction)
+generateLabel ctx l = labelAt ctx l >>= λ label. ok (Instruction.Label label ∷ [])
+
+unfoldable pub generateJump : Context → ℕ → Result (List Instruction)
+generateJump ctx l = labelAt ctx l >>= λ label. ok (Instruction.Ctrl CtrlOp.Jmp (Operand.Label label) ∷ [])

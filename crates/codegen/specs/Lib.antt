@@ -1,0 +1,6 @@
+pub mod Context
+pub mod Utils
+pub mod Instructions
+pub mod Arithmetic
+pub mod Frame
+pub mod Generation

@@ -1,0 +1,1 @@
+// Definitions of Krc's lowering (src/codegen): specs/ has one module for each of its four files.

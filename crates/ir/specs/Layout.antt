@@ -1,0 +1,174 @@
+-- The layout of tables and sheet: which cell is the first wrong one, in reading order (01, "Sheet and tables", "Limits", "The turned-away slip").
+use Prim.Native.Nat.{ℕ, zero, suc, _+_, _*_, _-_, _^_}
+use mathlib.Core.List.{List}
+use mathlib.Core.Bool.{Bool, cond, _&&_, _||_}
+use lib.ListN.{length}
+use lib.Dec.{ltb, leb, eqb}
+use Rattle.cells.specs.Cells.{cellAt, largest, readCell, readWithin, bindCell}
+use Rattle.cells.specs.declared.Cursor.{Cursor}
+use Rattle.cells.specs.declared.Cell.{Cell}
+use Rattle.ir.specs.declared.Limited.{Limited}
+use Rattle.ir.specs.declared.Checked.{Checked}
+use Rattle.ir.specs.Types.{noArray, offsetBehind}
+
+-- ---- what follows a part that is right
+
+abbrev pub bindLimited : Limited → (ℕ → Cursor → Checked) → Checked
+bindLimited (Limited.Word v c) rest = rest v c
+bindLimited (Limited.Refused n k) rest = Checked.Refused n k
+
+abbrev pub bindChecked : Checked → (Cursor → Checked) → Checked
+bindChecked (Checked.Behind c) rest = rest c
+bindChecked (Checked.Refused n k) rest = Checked.Refused n k
+
+abbrev pub cursor : ℕ → Cursor
+cursor k = record { at = k }
+
+-- nothing is left behind the cursor, not even a torn cell; else refusal n at the first left cell
+unfoldable pub endCheck : ℕ → List ℕ → Cursor → Checked
+endCheck n s c = cond (ltb (c .at * 8) (length s)) (Checked.Refused n (c .at)) (Checked.Behind c)
+
+-- ---- tables: a string count from 0 to 256, then a cell a float, 1 short or 0 long, at most 256; refusal 1
+
+-- at most n floats from the cursor on
+unfoldable pub floatsCheck : List ℕ → ℕ → Cursor → Checked
+floatsCheck t zero c = endCheck 1 t c
+floatsCheck t (suc n) c =
+    cond (ltb (c .at * 8) (length t)) (bindCell (Checked.Refused 1) (readWithin t c 0 1) (λ v next. floatsCheck t n next)) (Checked.Behind c)
+
+unfoldable pub tablesCheck : List ℕ → Checked
+tablesCheck t = bindCell (Checked.Refused 1) (readWithin t (cursor 0) 0 256) (λ strings next. floatsCheck t 256 next)
+
+-- ---- single cells of a sheet
+
+-- a count: negative is off the layout, above its limit oversize
+unfoldable pub limited : List ℕ → Cursor → ℕ → Limited
+limited s c most =
+    bindCell (Limited.Refused 2) (readWithin s c 0 largest) (λ v next. cond (ltb most v) (Limited.Refused 3 (c .at)) (Limited.Word v next))
+
+-- the count of a type: -1 for no array, or from 0 to 1,048,576
+unfoldable pub countCheck : List ℕ → Cursor → Checked
+countCheck s c =
+    bindCell (Checked.Refused 2) (readCell s c) (λ count next.
+    cond (eqb count noArray) (Checked.Behind next)
+    (cond (ltb largest count) (Checked.Refused 2 (c .at))
+    (cond (ltb 1048576 count) (Checked.Refused 3 (c .at)) (Checked.Behind next))))
+
+-- n unused cells
+unfoldable pub zerosCheck : List ℕ → ℕ → Cursor → Checked
+zerosCheck s zero c = Checked.Behind c
+zerosCheck s (suc n) c = bindCell (Checked.Refused 2) (readWithin s c 0 0) (λ v next. zerosCheck s n next)
+
+-- three cells, each from 0 to its own bound
+unfoldable pub fieldsCheck : List ℕ → Cursor → ℕ → ℕ → ℕ → Checked
+fieldsCheck s c x y z =
+    bindCell (Checked.Refused 2) (readWithin s c 0 x) (λ v c1.
+    bindCell (Checked.Refused 2) (readWithin s c1 0 y) (λ v c2.
+    bindCell (Checked.Refused 2) (readWithin s c2 0 z) (λ v c3. Checked.Behind c3)))
+
+-- ---- types, variables, operands
+
+-- a type is a code and a count
+unfoldable pub typeCheck : List ℕ → Cursor → Checked
+typeCheck s c = bindCell (Checked.Refused 2) (readWithin s c 1 12) (λ code next. countCheck s next)
+
+-- a return type may be 0, -1 for none
+unfoldable pub returnCheck : List ℕ → Cursor → Checked
+returnCheck s c =
+    bindCell (Checked.Refused 2) (readWithin s c 0 12) (λ code next.
+    cond (eqb code 0) (bindCell (Checked.Refused 2) (readWithin s next noArray noArray) (λ count c2. Checked.Behind c2)) (countCheck s next))
+
+-- a variable is an id and its own type
+unfoldable pub varCheck : List ℕ → Cursor → Checked
+varCheck s c = bindCell (Checked.Refused 2) (readWithin s c 0 largest) (λ id next. typeCheck s next)
+
+-- the bounds of an operand's fields, by its position in Krc's `Operand`: 1 Int has any number and two flags, 2 Float and 5 DataAddress a
+-- number, 3 Bool a flag, 6 Null nothing
+abbrev pub firstField : ℕ → ℕ
+firstField kind = cond (eqb kind 1) (2 ^ 64 - 1) (cond (eqb kind 3) 1 (cond (eqb kind 6) 0 largest))
+
+abbrev pub flagField : ℕ → ℕ
+flagField kind = cond (eqb kind 1) 1 0
+
+-- an operand is four cells: 0 Var and 4 Address hold a variable
+unfoldable pub operandCheck : List ℕ → Cursor → Checked
+operandCheck s c =
+    bindCell (Checked.Refused 2) (readWithin s c 0 6) (λ kind next.
+    cond (eqb kind 0 || eqb kind 4) (varCheck s next) (fieldsCheck s next (firstField kind) (flagField kind) (flagField kind)))
+
+unfoldable pub operandsCheck : List ℕ → ℕ → Cursor → Checked
+operandsCheck s zero c = Checked.Behind c
+operandsCheck s (suc n) c = bindChecked (operandCheck s c) (λ next. operandsCheck s n next)
+
+-- ---- instructions: position in Krc's `Instr`, operation, dest (3), left (4), right (4); a call's arguments follow
+-- 0 Copy, 1 Unary, 2 Binary, 3 Cast, 4 Zero, 5 Call, 6 Label, 7 Jump, 8 JumpIfNot, 9 Return, 10 Comment
+
+-- the largest operation: the position in `UnaryOp` or `BinaryOp`, a call's flag for a dest, a label's number; unused otherwise
+abbrev pub operationMost : ℕ → ℕ
+operationMost kind =
+    cond (eqb kind 1) 2 (cond (eqb kind 2) 17 (cond (eqb kind 5) 1 (cond (leb 6 kind && leb kind 8) largest 0)))
+
+-- the first five kinds have a dest, and a call whose operation is 1
+abbrev pub hasDest : ℕ → ℕ → Bool
+hasDest kind operation = ltb kind 5 || (eqb kind 5 && eqb operation 1)
+
+-- one-operand kinds use left, and a Binary
+abbrev pub hasLeft : ℕ → Bool
+hasLeft kind = ltb kind 4 || (eqb kind 8 || eqb kind 9)
+
+unfoldable pub destCheck : List ℕ → Bool → Cursor → Checked
+destCheck s has c = cond has (varCheck s c) (zerosCheck s 3 c)
+
+unfoldable pub sideCheck : List ℕ → Bool → Cursor → Checked
+sideCheck s has c = cond has (operandCheck s c) (zerosCheck s 4 c)
+
+-- kind and operation, dest, and the side that one-operand kinds use
+unfoldable pub headCheck : List ℕ → Cursor → Checked
+headCheck s c =
+    bindCell (Checked.Refused 2) (readWithin s c 0 10) (λ kind c1.
+    bindCell (Checked.Refused 2) (readWithin s c1 0 (operationMost kind)) (λ operation c2. destCheck s (hasDest kind operation) c2))
+
+-- a call has symbol number and argument count, at most 64, in left's first two cells
+unfoldable pub callCheck : List ℕ → Cursor → Checked
+callCheck s c =
+    bindCell (Checked.Refused 2) (readWithin s c 0 largest) (λ symbol c1.
+    bindLimited (limited s c1 64) (λ count c2. bindChecked (zerosCheck s 6 c2) (λ c3. operandsCheck s count c3)))
+
+-- the kind is read again: it stands five cells before left
+unfoldable pub instrCheck : List ℕ → Cursor → Checked
+instrCheck s c =
+    bindChecked (headCheck s c) (λ c1.
+    cond (eqb (cellAt s (c .at)) 5) (callCheck s c1)
+    (bindChecked (sideCheck s (hasLeft (cellAt s (c .at))) c1) (λ c2. sideCheck s (eqb (cellAt s (c .at)) 2) c2)))
+
+-- ---- the lists
+
+-- n variable types; `total` is the total of the sizes so far, and the count cell that passes the limit is refused
+unfoldable pub typesCheck : List ℕ → ℕ → ℕ → Cursor → Checked
+typesCheck s zero total c = Checked.Behind c
+typesCheck s (suc n) total c =
+    bindChecked (typeCheck s c) (λ next.
+    let sum : ℕ = offsetBehind total (record { code = cellAt s (c .at); count = cellAt s (c .at + 1) }) in
+    cond (ltb 1048576 sum) (Checked.Refused 3 (c .at + 1)) (typesCheck s n sum next))
+
+unfoldable pub varsCheck : List ℕ → ℕ → Cursor → Checked
+varsCheck s zero c = Checked.Behind c
+varsCheck s (suc n) c = bindChecked (varCheck s c) (λ next. varsCheck s n next)
+
+unfoldable pub instrsCheck : List ℕ → ℕ → Cursor → Checked
+instrsCheck s zero c = Checked.Behind c
+instrsCheck s (suc n) c = bindChecked (instrCheck s c) (λ next. instrsCheck s n next)
+
+-- ---- the sheet: variable count, parameter count, label count, return type, instruction count; then variable types, parameters, instructions
+
+unfoldable pub listsCheck : List ℕ → ℕ → ℕ → ℕ → Cursor → Checked
+listsCheck s vars params instrs c =
+    bindChecked (typesCheck s vars 0 c) (λ c1.
+    bindChecked (varsCheck s params c1) (λ c2. bindChecked (instrsCheck s instrs c2) (λ c3. endCheck 2 s c3)))
+
+unfoldable pub sheetCheck : List ℕ → Checked
+sheetCheck s =
+    bindLimited (limited s (cursor 0) 256) (λ vars c1.
+    bindLimited (limited s c1 256) (λ params c2.
+    bindLimited (limited s c2 256) (λ labels c3.
+    bindChecked (returnCheck s c3) (λ c4. bindLimited (limited s c4 4096) (λ instrs c5. listsCheck s vars params instrs c5)))))

@@ -1,0 +1,44 @@
+-- The variables' slots and the frame (01, demand 2 and "For demand 3"): the claims' own text, which shares nothing with the lowering's.
+use Prim.Native.Nat.{ℕ, zero, suc, _+_, _*_, _-_, _/_, _%_, _<_, _≤_}
+use mathlib.Core.Path.{_≡_}
+use mathlib.Core.List.{List, [], _∷_}
+use lib.ListN.{length, getD}
+use Rattle.ir.specs.declared.«Type».{«Type» as IrType}
+use Rattle.ir.specs.Types.{bytes}
+use Rattle.machine.specs.Word.{W, above}
+use Rattle.machine.specs.Plain.{noType}
+
+-- a variable's offset: the total of the sizes in sheet order, its own included
+unfoldable pub offset : List IrType → ℕ → ℕ
+offset [] x = 0
+offset (t ∷ ts) zero = bytes t
+offset (t ∷ ts) (suc x) = bytes t + offset ts x
+
+unfoldable pub totalSize : List IrType → ℕ
+totalSize [] = 0
+totalSize (t ∷ ts) = bytes t + totalSize ts
+
+abbrev pub sizeOf : List IrType → ℕ → ℕ
+sizeOf vars x = bytes (getD vars x noType)
+
+-- the least multiple of 16 not below the total
+abbrev pub frameSize : List IrType → ℕ
+frameSize vars = (totalSize vars + 15) / 16 * 16
+
+-- the displacement of variable x from RBP, as a pattern: minus its offset
+abbrev pub slotOf : List IrType → ℕ → ℕ
+slotOf vars x = (W - offset vars x) % W
+
+-- the address of byte i of variable x, where the frame ends at b: its slot starts at b less the offset
+abbrev pub slotByte : List IrType → ℕ → ℕ → ℕ → ℕ
+slotByte vars b x i = ((b + slotOf vars x) % W + i) % W
+
+pub record Framed (vars : List IrType) : Type 0 where
+  -- the frame is the least multiple of 16 not below the total
+  pub multiple : frameSize vars % 16 ≡ 0
+  pub enough : totalSize vars ≤ frameSize vars
+  pub least : (n : ℕ) → n % 16 ≡ 0 → totalSize vars ≤ n → frameSize vars ≤ n
+  -- every byte of a slot lies in the frame, wherever that ends, and belongs to one slot
+  pub inside : (b x i : ℕ) → b < W → x < length vars → i < sizeOf vars x → above ((b + (W - frameSize vars)) % W) (slotByte vars b x i) < frameSize vars
+  pub apart : (b x y i j : ℕ) → b < W → x < length vars → y < length vars → i < sizeOf vars x → j < sizeOf vars y
+      → slotByte vars b x i ≡ slotByte vars b y j → x ≡ y

@@ -1,0 +1,125 @@
+-- Demand 3: what a run of the lowered list of a plain function does, as one claim about the whole run (01, "For demand 3").
+use Prim.Native.Nat.{ℕ, suc, _+_, _*_, _-_, _%_, _<_, _≤_}
+use mathlib.Core.Path.{_≡_}
+use mathlib.Core.Logic.{_↔_}
+use mathlib.Core.Bool.{true, false, cond}
+use mathlib.Core.List.{List, [], _∷_, _++_}
+use mathlib.Core.Option.{some}
+use lib.Dec.{ltb}
+use lib.ListN.{length, getD, take}
+use Rattle.ir.specs.declared.VarId.{VarId}
+use Rattle.ir.specs.Types as types
+use Rattle.ir.specs.Types.{Result, ok, bytes}
+use Rattle.ir.specs.Function.{Function, Line, Tables, tablesOf, functionOf}
+use Rattle.x86.specs.declared.enums.Instruction.{Instruction}
+use Rattle.x86.specs.Decode.{decodeList}
+use Rattle.codegen.specs.Context.{Context}
+use Rattle.codegen.specs.Frame.{offsetsFrom, frame, funcPrologue}
+use Rattle.codegen.specs.Generation.{generateInstruction, contextOf}
+use Rattle.machine.specs.Word.{W, bound, above, load}
+use Rattle.machine.specs.Machine as x86
+use Rattle.machine.specs.Machine.{State, Choice}
+use Rattle.machine.specs.Steps as steps
+use Rattle.machine.specs.Steps.{Values, put, arrive}
+use Rattle.machine.specs.Plain.{Plain}
+use Rattle.machine.specs.Frames.{frameSize, slotByte, sizeOf}
+
+-- ---- entry, by the System V ABI, 3.2.2 and 3.2.3
+
+-- RSP plus 8 is a multiple of 16, the direction flag is clear; nothing else is asked
+pub record Entry (s : State) : Type 0 where
+  pub going : s .status ≡ x86.running
+  pub first : s .pos ≡ 0
+  pub aligned : (s .regs 4 + 8) % 16 ≡ 0
+  pub upward : s .flags .df ≡ false
+
+-- B, where the caller's RBP is saved: RSP at entry less 8; the frame ends here
+abbrev pub base : State → ℕ
+base s = (s .regs 4 + (W - 8)) % W
+
+-- RDI, RSI, RDX, RCX, R8, R9 carry the parameters in order
+abbrev pub abiRegisters : List ℕ
+abiRegisters = 7 ∷ 6 ∷ 2 ∷ 1 ∷ 8 ∷ 9 ∷ []
+
+-- a parameter's value is the low bytes of its register
+abbrev pub fill : (ℕ → ℕ) → List VarId → List ℕ → Values → Values
+fill regs [] rs σ = σ
+fill regs (p ∷ ps) [] σ = σ
+fill regs (p ∷ ps) (r ∷ rs) σ = fill regs ps rs (put σ (p .id) (bytes (p .ty)) (regs r % bound (bytes (p .ty))))
+
+-- F at its entry: a parameter starts with its value, any other variable with its slot's bytes
+abbrev pub start : Function → State → steps.State
+start F s = arrive F 0 (fill (s .regs) (F .params) abiRegisters (λ x i. s .mem (slotByte (F .vars) (base s) x i)))
+
+-- ---- F's place
+
+-- the records of a part of the lowering that was accepted
+abbrev pub recordsOf : Result (List Instruction) → List Instruction
+recordsOf (ok is) = is
+recordsOf (types.refused n) = []
+
+abbrev pub contextFor : Tables → Function → Context
+contextFor tables F = contextOf tables F (offsetsFrom 0 (F .vars))
+
+unfoldable pub recordsOfLines : Context → List Line → List Instruction
+recordsOfLines ctx [] = []
+recordsOfLines ctx (l ∷ ls) = recordsOf (generateInstruction ctx l) ++ recordsOfLines ctx ls
+
+-- behind the prologue and the records of all instructions before instruction k
+unfoldable pub place : Tables → Function → ℕ → ℕ
+place tables F k =
+    length (recordsOf (funcPrologue (contextFor tables F) (frame (F .vars)) (F .params)))
+    + length (recordsOfLines (contextFor tables F) (take k (F .body)))
+
+-- behind the Ret by which F returns from instruction k, or with none left
+abbrev pub behindRet : Tables → Function → List Instruction → ℕ → ℕ
+behindRet tables F c k = cond (ltb k (length (F .body))) (place tables F (suc k)) (length c)
+
+-- ---- the claim
+
+-- the address a lies neither in the frame nor in the saved RBP
+abbrev pub Outside : Function → State → ℕ → Type 0
+Outside F s a = (a < W) × (frameSize (F .vars) + 8 ≤ above ((base s + (W - frameSize (F .vars))) % W) a)
+
+-- as the run ends by a return: to the caller, with F's value in the low bytes of RAX, the caller's RBP, RSP behind the return address, and
+-- RBX and R12 to R15 as they were
+pub record Returned (s₀ s : State) (n v : ℕ) : Type 0 where
+  pub to : s .status ≡ x86.returned (load (s₀ .mem) (s₀ .regs 4 % W) 8)
+  pub value : s .regs 0 % bound n ≡ v
+  pub bp : s .regs 5 % W ≡ s₀ .regs 5 % W
+  pub sp : s .regs 4 % W ≡ (s₀ .regs 4 + 8) % W
+  pub bx : s .regs 3 ≡ s₀ .regs 3
+  pub others : (r : ℕ) → 12 ≤ r → r ≤ 15 → s .regs r ≡ s₀ .regs r
+
+-- how the run of c stands, by how F stands; s₀ is the state at entry. The record that faults is the fourth of its instruction's
+abbrev pub Stands : Tables → Function → List Instruction → State → State → steps.State → steps.Status → Type 0
+Stands tables F c s₀ s t steps.running = (s .status ≡ x86.running) × (s .pos ≡ place tables F (t .next))
+Stands tables F c s₀ s t steps.faulted = (s .status ≡ x86.faulted) × (s .pos ≡ place tables F (t .next) + 4)
+Stands tables F c s₀ s t steps.stuck = ⊥
+Stands tables F c s₀ s t (steps.returned n v) = Returned s₀ s n v × (s .pos ≡ behindRet tables F c (t .next))
+
+-- each slot holds its variable's value
+pub record Agrees (tables : Tables) (F : Function) (c : List Instruction) (s₀ s : State) (t : steps.State) : Type 0 where
+  pub slots : (x i : ℕ) → x < length (F .vars) → i < sizeOf (F .vars) x → s .mem (slotByte (F .vars) (base s₀) x i) ≡ t .vals x i
+  pub stands : Stands tables F c s₀ s t (t .status)
+
+-- `o` has what the manual leaves open
+pub record Simulates (tables : Tables) (F : Function) (c : List Instruction) (o : ℕ → Choice) (s₀ : State) : Type 0 where
+  -- for every n, after n steps of F the records have run to F's place, at most 12 + 5n of them
+  pub follows : (n : ℕ) → (m : ℕ) × (m ≤ 12 + 5 * n) × Agrees tables F c s₀ (x86.run c o m s₀) (steps.run F n (start F s₀))
+  -- they fault exactly when F divides by zero
+  pub faults :
+      ((n : ℕ) × (steps.run F n (start F s₀) .status ≡ steps.faulted)) ↔ ((m : ℕ) × (x86.run c o m s₀ .status ≡ x86.faulted))
+  -- they return exactly when F returns
+  pub returns :
+      ((n w v : ℕ) × (steps.run F n (start F s₀) .status ≡ steps.returned w v)) ↔ ((m a : ℕ) × (x86.run c o m s₀ .status ≡ x86.returned a))
+  -- they never come to a record that the manual does not have
+  pub defined : (m : ℕ) → x86.run c o m s₀ .status ≡ x86.undefined → ⊥
+  -- at no time have they changed a byte outside the frame and the saved RBP
+  pub keeps : (m a : ℕ) → Outside F s₀ a → x86.run c o m s₀ .mem a ≡ s₀ .mem a
+
+-- the first n records of the bytes are a list that simulates the function of the sheet, from every entry
+pub record Demand3 (tables sheet records : List ℕ) (n : ℕ) : Type 0 where
+  pub list : List Instruction
+  pub decoded : decodeList records n 0 ≡ some list
+  pub simulates : (o : ℕ → Choice) (s₀ : State) → Entry s₀ → Simulates (tablesOf tables) (functionOf sheet) list o s₀
