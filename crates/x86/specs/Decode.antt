@@ -1,5 +1,5 @@
 -- Records read back: from eight cells to the instruction that has them, and from bytes to a list (01, "Record").
-use Prim.Native.Nat.{ℕ, zero, suc, _+_, _*_, _-_}
+use Prim.Native.Nat.{ℕ, zero, suc, _+_, _-_, _^_, _<_}
 use mathlib.Core.List.{List, [], _∷_}
 use mathlib.Core.Option.{Option, none, some}
 use mathlib.Core.Bool.{Bool, cond, _&&_}
@@ -21,9 +21,8 @@ use Rattle.x86.specs.declared.enums.Prefix.{Prefix}
 use Rattle.x86.specs.declared.enums.ExtendOp.{ExtendOp}
 use Rattle.x86.specs.declared.enums.ConvOp.{ConvOp}
 use Rattle.x86.specs.declared.enums.Instruction.{Instruction}
-use Rattle.x86.specs.declared.record.Record.{Record}
 use Rattle.x86.specs.Registers.{gpr, xmm, rbpPlus, ripString, ripFloat}
-use Rattle.x86.specs.Records.{recordOf}
+use Rattle.x86.specs.Records.{Record, recordOf}
 
 infixl 20 _>>=_
 abbrev pub _>>=_ : {A B : Type 0} → Option A → (A → Option B) → Option B
@@ -72,21 +71,21 @@ conversions =
     (1, ConvOp.Cvtsd2ss) ∷ (2, ConvOp.Cvtsi2sd) ∷ (3, ConvOp.Cvtsi2ss) ∷ (4, ConvOp.Cvtss2sd) ∷ (6, ConvOp.Cvttsd2si) ∷ (7, ConvOp.Cvttss2si) ∷ []
 
 -- a general register's number is below 16, an XMM register's below 32
-abbrev pub registerOf : ℕ → Option Register
-registerOf k = cond (ltb k 16) (some (gpr k)) (cond (ltb k 32) (some (xmm (k - 16))) none)
+abbrev pub registerAt : ℕ → Option Register
+registerAt k = cond (ltb k 16) (some (gpr k)) (cond (ltb k 32) (some (xmm (k - 16))) none)
 
 -- by the tag, from 0: none, register, immediate, symbol, label, RBP plus value, string, float
 abbrev pub operandOf : ℕ → ℕ → Option Operand
 operandOf tag v =
-    getElem? (some Operand.NoOperand ∷ (registerOf v >>= λ r. some (Operand.Reg r)) ∷ some (Operand.Imm v) ∷ some (Operand.Sym v)
+    getElem? (some Operand.NoOperand ∷ (registerAt v >>= λ r. some (Operand.Reg r)) ∷ some (Operand.Imm v) ∷ some (Operand.Sym v)
     ∷ some (Operand.Label v) ∷ some (rbpPlus v) ∷ some (ripString v) ∷ some (ripFloat v) ∷ []) tag >>= λ o. o
 
 -- the operands and sizes of a record
 abbrev pub dstOf : Record → Option Operand
-dstOf r = operandOf (r .«dst_tag») (r .dst)
+dstOf r = operandOf (r .dstTag) (r .dst)
 
 abbrev pub srcOf : Record → Option Operand
-srcOf r = operandOf (r .«src_tag») (r .src)
+srcOf r = operandOf (r .srcTag) (r .src)
 
 abbrev pub sizeOf : Record → Option Size
 sizeOf r = lookUp sizes (r .size)
@@ -116,7 +115,7 @@ asComplex r = do
 abbrev pub asConvert : Record → Option Instruction
 asConvert r = do
   op ← lookUp conversions (r .operation)
-  d ← registerOf (r .dst)
+  d ← registerAt (r .dst)
   x ← srcOf r
   n ← sizeOf r
   some (Instruction.Convert op d x n)
@@ -130,15 +129,15 @@ asCtrl r = do
 abbrev pub asExtend : Record → Option Instruction
 asExtend r = do
   op ← lookUp extends (r .operation)
-  d ← registerOf (r .dst)
+  d ← registerAt (r .dst)
   x ← srcOf r
-  z ← lookUp sizes (r .«src_size»)
+  z ← lookUp sizes (r .srcSize)
   n ← sizeOf r
   some (Instruction.Extend op d x z n)
 
 abbrev pub asLea : Record → Option Instruction
 asLea r = do
-  d ← registerOf (r .dst)
+  d ← registerAt (r .dst)
   x ← srcOf r
   n ← sizeOf r
   some (Instruction.Lea x d n)
@@ -185,8 +184,8 @@ candidate r =
 -- whether two records have the same cells
 abbrev pub sameCells : Record → Record → Bool
 sameCells r q =
-    eqb (r .form) (q .form) && (eqb (r .operation) (q .operation) && (eqb (r .«dst_tag») (q .«dst_tag») && (eqb (r .dst) (q .dst)
-    && (eqb (r .«src_tag») (q .«src_tag») && (eqb (r .src) (q .src) && (eqb (r .size) (q .size) && eqb (r .«src_size») (q .«src_size»)))))))
+    eqb (r .form) (q .form) && (eqb (r .operation) (q .operation) && (eqb (r .dstTag) (q .dstTag) && (eqb (r .dst) (q .dst)
+    && (eqb (r .srcTag) (q .srcTag) && (eqb (r .src) (q .src) && (eqb (r .size) (q .size) && eqb (r .srcSize) (q .srcSize)))))))
 
 -- the instruction that has a record's cells, all eight of them
 unfoldable pub decode : Record → Option Instruction
@@ -198,12 +197,12 @@ recordAt bs at =
     record {
       form = word bs at;
       operation = word bs (at + 8);
-      «dst_tag» = word bs (at + 16);
+      dstTag = word bs (at + 16);
       dst = word bs (at + 24);
-      «src_tag» = word bs (at + 32);
+      srcTag = word bs (at + 32);
       src = word bs (at + 40);
       size = word bs (at + 48);
-      «src_size» = word bs (at + 56);
+      srcSize = word bs (at + 56);
     }
 
 -- the list of n records in the bytes from `at` on
@@ -213,3 +212,34 @@ decodeList bs (suc n) at = do
   i ← decode (recordAt bs at)
   is ← decodeList bs n (at + 64)
   some (i ∷ is)
+
+-- ---- which instructions have a record: their registers exist and their numbers are below 2 ^ 64
+
+abbrev pub FitsRegister : Register → Type 0
+FitsRegister r = r .index < 16
+
+abbrev pub FitsOperand : Operand → Type 0
+FitsOperand Operand.NoOperand = Unit {0}
+FitsOperand (Operand.Reg r) = FitsRegister r
+FitsOperand (Operand.Imm v) = v < 2 ^ 64
+FitsOperand (Operand.Sym k) = k < 2 ^ 64
+FitsOperand (Operand.Label l) = l < 2 ^ 64
+FitsOperand (Operand.MemoryAddress a) = a .disp < 2 ^ 64
+
+abbrev pub Fits : Instruction → Type 0
+Fits (Instruction.Binary op dst src size) = FitsOperand dst × FitsOperand src
+Fits (Instruction.ComplexBinary op dst src size) = FitsOperand dst × FitsOperand src
+Fits (Instruction.Convert op dst src size) = FitsRegister dst × FitsOperand src
+Fits (Instruction.Ctrl op target) = FitsOperand target
+Fits (Instruction.Extend op dst src srcSize size) = FitsRegister dst × FitsOperand src
+Fits (Instruction.Lea src dst size) = FitsRegister dst × FitsOperand src
+Fits (Instruction.Label n) = n < 2 ^ 64
+Fits (Instruction.Prefix prefix op size) = Unit {0}
+Fits (Instruction.SetCC op dst) = FitsOperand dst
+Fits (Instruction.Shift op dst src size) = FitsOperand dst × FitsOperand src
+Fits (Instruction.Stack op value size) = FitsOperand value
+Fits (Instruction.Unary op dst size) = FitsOperand dst
+
+abbrev pub AllFit : List Instruction → Type 0
+AllFit [] = Unit {0}
+AllFit (i ∷ is) = Fits i × AllFit is

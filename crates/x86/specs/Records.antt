@@ -1,7 +1,9 @@
 -- The eight cells of a record, and its 64 bytes (01, "Record"). Codes are positions in Krc's enums (elf/instructions/enums.rs).
 use Prim.Native.Nat.{ℕ, _+_, _*_}
 use mathlib.Core.List.{List, [], _∷_, _++_}
-use Rattle.cells.specs.Cells.{bytesOf}
+use mathlib.Core.Bool.{cond}
+use lib.Dec.{eqb}
+use Rattle.cells.specs.Cells.{bytesOf, write}
 use Rattle.x86.specs.declared.mem_address.Base.{Base}
 use Rattle.x86.specs.declared.enums.Size.{Size}
 use Rattle.x86.specs.declared.enums.Operand.{Operand}
@@ -17,7 +19,6 @@ use Rattle.x86.specs.declared.enums.Prefix.{Prefix}
 use Rattle.x86.specs.declared.enums.ExtendOp.{ExtendOp}
 use Rattle.x86.specs.declared.enums.ConvOp.{ConvOp}
 use Rattle.x86.specs.declared.enums.Instruction.{Instruction}
-use Rattle.x86.specs.declared.record.Record.{Record}
 use Rattle.x86.specs.Registers.{number}
 
 -- ---- sizes and operands
@@ -132,19 +133,25 @@ convCode ConvOp.Cvttss2si = 7
 
 -- ---- records
 
+-- eight cells
+pub record Record : Type 0 where
+  pub form : ℕ
+  pub operation : ℕ
+  pub dstTag : ℕ
+  pub dst : ℕ
+  pub srcTag : ℕ
+  pub src : ℕ
+  pub size : ℕ
+  pub srcSize : ℕ
+
 -- form, operation, dst tag, dst value, src tag, src value, size, source size
+abbrev pub cellsRecord : ℕ → ℕ → ℕ → ℕ → ℕ → ℕ → ℕ → ℕ → Record
+cellsRecord form operation dstTag dst srcTag src size srcSize =
+    record { form = form; operation = operation; dstTag = dstTag; dst = dst; srcTag = srcTag; src = src; size = size; srcSize = srcSize }
+
 abbrev pub recordWith : ℕ → ℕ → Operand → Operand → Size → Size → Record
 recordWith form operation dst src size srcSize =
-    record {
-      form = form;
-      operation = operation;
-      «dst_tag» = tagOf dst;
-      dst = valueOf dst;
-      «src_tag» = tagOf src;
-      src = valueOf src;
-      size = sizeCode size;
-      «src_size» = sizeCode srcSize;
-    }
+    cellsRecord form operation (tagOf dst) (valueOf dst) (tagOf src) (valueOf src) (sizeCode size) (sizeCode srcSize)
 
 -- the form is the position in Krc's `Instruction`
 unfoldable pub recordOf : Instruction → Record
@@ -164,10 +171,14 @@ recordOf (Instruction.Unary op dst size) = recordWith 17 (unaryCode op) dst Oper
 
 unfoldable pub recordBytes : Record → List ℕ
 recordBytes r =
-    bytesOf (r .form) ++ bytesOf (r .operation) ++ bytesOf (r .«dst_tag») ++ bytesOf (r .dst) ++ bytesOf (r .«src_tag»)
-    ++ bytesOf (r .src) ++ bytesOf (r .size) ++ bytesOf (r .«src_size»)
+    bytesOf (r .form) ++ bytesOf (r .operation) ++ bytesOf (r .dstTag) ++ bytesOf (r .dst) ++ bytesOf (r .srcTag)
+    ++ bytesOf (r .src) ++ bytesOf (r .size) ++ bytesOf (r .srcSize)
 
 -- the bytes of a list of instructions: their records one behind the other
 unfoldable pub listBytes : List Instruction → List ℕ
 listBytes [] = []
 listBytes (i ∷ is) = recordBytes (recordOf i) ++ listBytes is
+
+-- the bytes with the record of an instruction from `at` on, if it has a form
+abbrev pub writeForm : ℕ → Instruction → ℕ → List ℕ → List ℕ
+writeForm form i at bs = cond (eqb (recordOf i .form) form) (write bs at (recordBytes (recordOf i))) bs

@@ -23,11 +23,15 @@ isXmmClass RegisterClass.Xmm = true
 abbrev pub isXmm : Register → Bool
 isXmm r = isXmmClass (r .class)
 
+-- `Register::new`
+abbrev pub registerOf : RegisterClass → ℕ → Register
+registerOf c k = record { class = c; index = k }
+
 abbrev pub gpr : ℕ → Register
-gpr k = record { class = RegisterClass.Gpr; index = k }
+gpr k = registerOf RegisterClass.Gpr k
 
 abbrev pub xmm : ℕ → Register
-xmm k = record { class = RegisterClass.Xmm; index = k }
+xmm k = registerOf RegisterClass.Xmm k
 
 -- the registers that the lowering names (Intel, volume 1, 3.4.1: RAX 0, RCX 1, RDX 2, RBX 3, RSP 4, RBP 5, RSI 6, RDI 7)
 abbrev pub RAX : Register

@@ -1,6 +1,9 @@
-// Sizes, operands, operations and instructions.
+// Sizes, operands, operations and instructions. A code is a position in Krc's enum.
 use crate::mem_address::MemAddress;
 use crate::register::Register;
+ghost use mathlib.Core.Path.{_≡_};
+ghost use Prim.Native.Nat.{_<_};
+ghost use Rattle.x86.specs.Records.{sizeCode, tagOf, valueOf, conditionCode, binCode, shiftCode, complexCode, unaryCode, stackCode, ctrlCode, prefixCode, stringCode, extendCode, convCode};
 
 // Krc's `Option<Size>`.
 pub enum Size {
@@ -11,6 +14,20 @@ pub enum Size {
     U64,
 }
 
+impl Size {
+    pub fn code(self) -> u64
+        ensures { λ r. ⌜ r ≡ sizeCode self ⌝ }
+    {
+        match self {
+            Size::NoSize => 0,
+            Size::U8 => 1,
+            Size::U16 => 2,
+            Size::U32 => 4,
+            Size::U64 => 8,
+        }
+    }
+}
+
 pub enum Operand {
     NoOperand,
     Reg(Register),
@@ -18,6 +35,37 @@ pub enum Operand {
     Sym(u64),
     Label(u64),
     MemoryAddress(MemAddress),
+}
+
+impl Operand {
+    pub fn tag(self) -> u64
+        ensures { λ r. ⌜ r ≡ tagOf self ⌝ }
+    {
+        match self {
+            Operand::NoOperand => 0,
+            Operand::Reg(_) => 1,
+            Operand::Imm(_) => 2,
+            Operand::Sym(_) => 3,
+            Operand::Label(_) => 4,
+            Operand::MemoryAddress(a) => {
+                let base = a.base;
+                base.tag()
+            }
+        }
+    }
+
+    pub fn value(self) -> u64
+        ensures { λ r. ⌜ r ≡ valueOf self ⌝ }
+    {
+        match self {
+            Operand::NoOperand => 0,
+            Operand::Reg(r) => r.number(),
+            Operand::Imm(v) => v,
+            Operand::Sym(k) => k,
+            Operand::Label(l) => l,
+            Operand::MemoryAddress(a) => a.disp,
+        }
+    }
 }
 
 pub enum ConditionCode {
@@ -33,6 +81,27 @@ pub enum ConditionCode {
     BE,
     P,
     NP,
+}
+
+impl ConditionCode {
+    pub fn code(self) -> u64
+        ensures { λ r. ⌜ (r ≡ conditionCode self) × (r < 16) ⌝ }
+    {
+        match self {
+            ConditionCode::E => 0,
+            ConditionCode::NE => 1,
+            ConditionCode::G => 2,
+            ConditionCode::GE => 3,
+            ConditionCode::L => 4,
+            ConditionCode::LE => 5,
+            ConditionCode::A => 6,
+            ConditionCode::AE => 7,
+            ConditionCode::B => 8,
+            ConditionCode::BE => 9,
+            ConditionCode::P => 14,
+            ConditionCode::NP => 15,
+        }
+    }
 }
 
 pub enum BinOp {
@@ -52,16 +121,63 @@ pub enum BinOp {
     UcomiF,
 }
 
+impl BinOp {
+    pub fn code(self) -> u64
+        ensures { λ r. ⌜ r ≡ binCode self ⌝ }
+    {
+        match self {
+            BinOp::Mov => 0,
+            BinOp::Add => 2,
+            BinOp::Sub => 3,
+            BinOp::And => 6,
+            BinOp::Or => 7,
+            BinOp::Xor => 8,
+            BinOp::Cmp => 9,
+            BinOp::LoadF => 11,
+            BinOp::StoreF => 12,
+            BinOp::AddF => 13,
+            BinOp::SubF => 14,
+            BinOp::MulF => 15,
+            BinOp::DivF => 16,
+            BinOp::UcomiF => 18,
+        }
+    }
+}
+
 pub enum ShiftOp {
     Shl,
     Shr,
     Sar,
 }
 
+impl ShiftOp {
+    pub fn code(self) -> u64
+        ensures { λ r. ⌜ r ≡ shiftCode self ⌝ }
+    {
+        match self {
+            ShiftOp::Shl => 0,
+            ShiftOp::Shr => 1,
+            ShiftOp::Sar => 2,
+        }
+    }
+}
+
 pub enum ComplexBinOp {
     Div,
     Imul,
     Idiv,
+}
+
+impl ComplexBinOp {
+    pub fn code(self) -> u64
+        ensures { λ r. ⌜ r ≡ complexCode self ⌝ }
+    {
+        match self {
+            ComplexBinOp::Div => 3,
+            ComplexBinOp::Imul => 4,
+            ComplexBinOp::Idiv => 5,
+        }
+    }
 }
 
 pub enum UnaryOp {
@@ -71,9 +187,33 @@ pub enum UnaryOp {
     Cqo,
 }
 
+impl UnaryOp {
+    pub fn code(self) -> u64
+        ensures { λ r. ⌜ r ≡ unaryCode self ⌝ }
+    {
+        match self {
+            UnaryOp::Neg => 0,
+            UnaryOp::Not => 1,
+            UnaryOp::Cdq => 5,
+            UnaryOp::Cqo => 6,
+        }
+    }
+}
+
 pub enum StackOp {
     Push,
     Pop,
+}
+
+impl StackOp {
+    pub fn code(self) -> u64
+        ensures { λ r. ⌜ r ≡ stackCode self ⌝ }
+    {
+        match self {
+            StackOp::Push => 0,
+            StackOp::Pop => 1,
+        }
+    }
 }
 
 pub enum CtrlOp {
@@ -83,17 +223,62 @@ pub enum CtrlOp {
     JmpCC(ConditionCode),
 }
 
+impl CtrlOp {
+    // 16 times the outer code plus the inner one, where there is an inner one.
+    pub fn code(self) -> u64
+        ensures { λ r. ⌜ r ≡ ctrlCode self ⌝ }
+    {
+        match self {
+            CtrlOp::Jmp => 0,
+            CtrlOp::Call => 1,
+            CtrlOp::Ret => 2,
+            CtrlOp::JmpCC(cc) => 64 + cc.code(),
+        }
+    }
+}
+
 pub enum StringOp {
     Stos,
+}
+
+impl StringOp {
+    pub fn code(self) -> u64
+        ensures { λ r. ⌜ (r ≡ stringCode self) × (r < 16) ⌝ }
+    {
+        match self {
+            StringOp::Stos => 4,
+        }
+    }
 }
 
 pub enum Prefix {
     Rep,
 }
 
+impl Prefix {
+    pub fn code(self) -> u64
+        ensures { λ r. ⌜ (r ≡ prefixCode self) × (r < 16) ⌝ }
+    {
+        match self {
+            Prefix::Rep => 1,
+        }
+    }
+}
+
 pub enum ExtendOp {
     Movsxd,
     Movzx,
+}
+
+impl ExtendOp {
+    pub fn code(self) -> u64
+        ensures { λ r. ⌜ r ≡ extendCode self ⌝ }
+    {
+        match self {
+            ExtendOp::Movsxd => 1,
+            ExtendOp::Movzx => 2,
+        }
+    }
 }
 
 pub enum ConvOp {
@@ -103,6 +288,21 @@ pub enum ConvOp {
     Cvtss2sd,
     Cvttsd2si,
     Cvttss2si,
+}
+
+impl ConvOp {
+    pub fn code(self) -> u64
+        ensures { λ r. ⌜ r ≡ convCode self ⌝ }
+    {
+        match self {
+            ConvOp::Cvtsd2ss => 1,
+            ConvOp::Cvtsi2sd => 2,
+            ConvOp::Cvtsi2ss => 3,
+            ConvOp::Cvtss2sd => 4,
+            ConvOp::Cvttsd2si => 6,
+            ConvOp::Cvttss2si => 7,
+        }
+    }
 }
 
 // Krc's `Prefix` holds a boxed instruction: here the string operation that it repeats.

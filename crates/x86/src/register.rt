@@ -1,4 +1,6 @@
 // Machine registers.
+ghost use mathlib.Core.Path.{_≡_};
+ghost use Rattle.x86.specs.Registers.{number, isXmm, registerOf};
 
 pub enum RegisterClass {
     Gpr,
@@ -11,6 +13,34 @@ pub struct Register {
 }
 
 impl Register {
+    pub fn new(class: RegisterClass, index: u8) -> Self
+        ensures { λ r. ⌜ r ≡ registerOf class index ⌝ }
+    {
+        Self { class, index }
+    }
+
+    pub fn is_xmm(self) -> bool
+        ensures { λ r. ⌜ r ≡ isXmm self ⌝ }
+    {
+        let class = self.class;
+        match class {
+            RegisterClass::Gpr => false,
+            RegisterClass::Xmm => true,
+        }
+    }
+
+    // Its number in a record: a GPR's index, or 16 plus an XMM index.
+    pub fn number(self) -> u64
+        ensures { λ r. ⌜ r ≡ number self ⌝ }
+    {
+        let class = self.class;
+        let index = self.index as u64;
+        match class {
+            RegisterClass::Gpr => index,
+            RegisterClass::Xmm => 16 + index,
+        }
+    }
+
     pub const RAX: Register = Register {
         class: RegisterClass::Gpr,
         index: 0,
