@@ -6,7 +6,7 @@ use lib.ListN.{length, getD}
 use lib.Dec.{ltb, eqb}
 use Rattle.ir.specs.declared.«Type».{«Type» as IrType}
 use Rattle.ir.specs.declared.VarId.{VarId}
-use Rattle.ir.specs.Types.{Result, ok, refused, _>>=_, elementWidth, offsetBehind, isFloat}
+use Rattle.ir.specs.Types.{Result, ok, refused, _>>=_, elementWidth, offsetBehind, lastOffset, isFloat}
 use Rattle.x86.specs.declared.register.Register.{Register}
 use Rattle.x86.specs.declared.enums.Size.{Size}
 use Rattle.x86.specs.declared.enums.Operand.{Operand}
@@ -24,11 +24,6 @@ use Rattle.codegen.specs.Instructions.{move, paramRegs, paramFregs}
 unfoldable pub offsetsFrom : ℕ → List IrType → List ℕ
 offsetsFrom end [] = []
 offsetsFrom end (t ∷ ts) = offsetBehind end t ∷ offsetsFrom (offsetBehind end t) ts
-
--- the last offset: the total of the sizes
-unfoldable pub lastOffset : ℕ → List IrType → ℕ
-lastOffset end [] = end
-lastOffset end (t ∷ ts) = lastOffset (offsetBehind end t) ts
 
 abbrev pub total : List IrType → ℕ
 total vars = lastOffset 0 vars

@@ -6,11 +6,11 @@ use lib.ListN.{length, drop}
 use lib.Dec.{ltb}
 use Rattle.ir.specs.declared.Instr.{Instr}
 use Rattle.ir.specs.declared.Operand.{Operand as IrOp}
-use Rattle.ir.specs.declared.Checked.{Checked}
+use Rattle.layout.specs.declared.Checked.{Checked}
 use Rattle.ir.specs.Types as types
 use Rattle.ir.specs.Types.{Result, ok}
 use Rattle.ir.specs.Function.{Tables, Function, Line, binaryOp, tablesOf, functionOf}
-use Rattle.ir.specs.Layout.{tablesCheck, sheetCheck}
+use Rattle.layout.specs.Layout.{tablesCheck, sheetCheck}
 use Rattle.x86.specs.declared.enums.CtrlOp.{CtrlOp}
 use Rattle.x86.specs.declared.enums.Operand.{Operand}
 use Rattle.x86.specs.declared.enums.Instruction.{Instruction}

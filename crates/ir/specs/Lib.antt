@@ -1,3 +1,3 @@
 pub mod Types
-pub mod Layout
+pub mod Answers
 pub mod Function

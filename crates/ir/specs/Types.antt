@@ -1,5 +1,5 @@
 -- Krc's `Type` and its answers (parser/postparser/structs.rs), Krc's `Operand::size` (converter/ir/structs.rs), and 01's type codes.
-use Prim.Native.Nat.{ℕ, _+_, _*_, _^_, _-_}
+use Prim.Native.Nat.{ℕ, _+_, _*_, _^_, _-_, min}
 use mathlib.Core.List.{List, [], _∷_}
 use mathlib.Core.Bool.{Bool, true, false, cond, not, _&&_, _||_}
 use lib.ListN.{getD}
@@ -31,13 +31,18 @@ isScalar ty = eqb (ty .count) noArray
 unfoldable pub elementWidth : ℕ → ℕ
 elementWidth code = getD (0 ∷ 8 ∷ 8 ∷ 4 ∷ 4 ∷ 8 ∷ 4 ∷ 1 ∷ 1 ∷ 1 ∷ 8 ∷ 0 ∷ 0 ∷ []) code 0
 
--- the bytes of a variable of a type: the product of count and element; 0 where there is no width (01, "Limits")
+-- the bytes of a variable of a type: the product of element and count; 0 where there is no width. No count is above 1,048,576 (01, "Limits")
 unfoldable pub bytes : IrType → ℕ
-bytes ty = cond (isScalar ty) (elementWidth (ty .code)) (elementWidth (ty .code) * ty .count)
+bytes ty = cond (isScalar ty) (elementWidth (ty .code)) (elementWidth (ty .code) * min (ty .count) 1048576)
 
 -- a variable's offset under RBP, behind one of offset `end`: the sizes up to it, its own included (01, "For demand 3")
 abbrev pub offsetBehind : ℕ → IrType → ℕ
 offsetBehind end ty = end + bytes ty
+
+-- the last offset of a list of variables, where those before them end at `end`: the total of the sizes
+unfoldable pub lastOffset : ℕ → List IrType → ℕ
+lastOffset end [] = end
+lastOffset end (t ∷ ts) = lastOffset (offsetBehind end t) ts
 
 -- `Type::size`: refusal 4 on Custom, Null and arrays of them (01, "The turned-away slip")
 unfoldable pub typeSize : IrType → Result ℕ

@@ -1,6 +1,7 @@
 // Krc's intermediate form, as far as the lowering reads it: types, variables, operands and instructions, with the tables and the sheet that hold
 // them in cells. Krc's `String`, `Vec` and `Box` are cells here: a text is its number, a nested array one element code and the product of the counts.
-use cells::Cursor;
+pub mod read;
+pub mod types;
 
 // Krc's `Type`: an element code from 1 to 12, and a count, which is the pattern of -1 where the type is no array. As a return type code 0 is none.
 pub struct Type {
@@ -71,16 +72,4 @@ pub enum Instr {
     },
     Return(Operand),
     Comment,
-}
-
-// What reading a cell with a limit finds: the cell and the cursor behind it, or the refusal's number and cell.
-pub enum Limited {
-    Word(u64, Cursor),
-    Refused(u64, usize),
-}
-
-// What checking a part of a layout finds: the cursor behind it, or the refusal's number and cell.
-pub enum Checked {
-    Behind(Cursor),
-    Refused(u64, usize),
 }

@@ -10,10 +10,10 @@ use Rattle.ir.specs.declared.«Type».{«Type» as IrType}
 use Rattle.ir.specs.declared.VarId.{VarId}
 use Rattle.ir.specs.declared.Operand.{Operand}
 use Rattle.ir.specs.declared.Instr.{Instr}
-use Rattle.ir.specs.declared.Checked.{Checked}
+use Rattle.layout.specs.declared.Checked.{Checked}
 use Rattle.ir.specs.Types.{isScalar, bytes}
 use Rattle.ir.specs.Function.{Function, Line, BinaryOp, binaryOp, tablesOf, functionOf}
-use Rattle.ir.specs.Layout.{tablesCheck, sheetCheck}
+use Rattle.layout.specs.Layout.{tablesCheck, sheetCheck}
 use Rattle.codegen.specs.Generation.{Outcome, accepted, refused, generate}
 use Rattle.machine.specs.Word.{W}
 use Rattle.machine.specs.Steps.{width, isLabel}

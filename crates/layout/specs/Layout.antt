@@ -7,9 +7,9 @@ use lib.Dec.{ltb, leb, eqb}
 use Rattle.cells.specs.Cells.{cellAt, largest, readCell, readWithin, bindCell}
 use Rattle.cells.specs.declared.Cursor.{Cursor}
 use Rattle.cells.specs.declared.Cell.{Cell}
-use Rattle.ir.specs.declared.Limited.{Limited}
-use Rattle.ir.specs.declared.Checked.{Checked}
+use Rattle.layout.specs.declared.Limited.{Limited}
+use Rattle.layout.specs.declared.Checked.{Checked}
 use Rattle.ir.specs.Types.{noArray, offsetBehind}
 
 -- ---- what follows a part that is right
 
@@ -122,24 +122,22 @@ destCheck s has c = cond has (varCheck s c) (zerosCheck s 3 c)
 unfoldable pub sideCheck : List ℕ → Bool → Cursor → Checked
 sideCheck s has c = cond has (operandCheck s c) (zerosCheck s 4 c)
 
--- kind and operation, dest, and the side that one-operand kinds use
-unfoldable pub headCheck : List ℕ → Cursor → Checked
-headCheck s c =
-    bindCell (Checked.Refused 2) (readWithin s c 0 10) (λ kind c1.
-    bindCell (Checked.Refused 2) (readWithin s c1 0 (operationMost kind)) (λ operation c2. destCheck s (hasDest kind operation) c2))
-
 -- a call has symbol number and argument count, at most 64, in left's first two cells
 unfoldable pub callCheck : List ℕ → Cursor → Checked
 callCheck s c =
     bindCell (Checked.Refused 2) (readWithin s c 0 largest) (λ symbol c1.
     bindLimited (limited s c1 64) (λ count c2. bindChecked (zerosCheck s 6 c2) (λ c3. operandsCheck s count c3)))
 
--- the kind is read again: it stands five cells before left
+-- left and right of a kind; a call has none but its own cells
+unfoldable pub bodyCheck : List ℕ → ℕ → Cursor → Checked
+bodyCheck s kind c =
+    cond (eqb kind 5) (callCheck s c) (bindChecked (sideCheck s (hasLeft kind) c) (λ c1. sideCheck s (eqb kind 2) c1))
+
 unfoldable pub instrCheck : List ℕ → Cursor → Checked
 instrCheck s c =
-    bindChecked (headCheck s c) (λ c1.
-    cond (eqb (cellAt s (c .at)) 5) (callCheck s c1)
-    (bindChecked (sideCheck s (hasLeft (cellAt s (c .at))) c1) (λ c2. sideCheck s (eqb (cellAt s (c .at)) 2) c2)))
+    bindCell (Checked.Refused 2) (readWithin s c 0 10) (λ kind c1.
+    bindCell (Checked.Refused 2) (readWithin s c1 0 (operationMost kind)) (λ operation c2.
+    bindChecked (destCheck s (hasDest kind operation) c2) (λ c3. bodyCheck s kind c3)))
 
 -- ---- the lists
 
@@ -166,9 +164,12 @@ listsCheck s vars params instrs c =
     bindChecked (typesCheck s vars 0 c) (λ c1.
     bindChecked (varsCheck s params c1) (λ c2. bindChecked (instrsCheck s instrs c2) (λ c3. endCheck 2 s c3)))
 
+unfoldable pub restCheck : List ℕ → ℕ → ℕ → Cursor → Checked
+restCheck s vars params c =
+    bindChecked (returnCheck s c) (λ c1. bindLimited (limited s c1 4096) (λ instrs c2. listsCheck s vars params instrs c2))
+
 unfoldable pub sheetCheck : List ℕ → Checked
 sheetCheck s =
     bindLimited (limited s (cursor 0) 256) (λ vars c1.
     bindLimited (limited s c1 256) (λ params c2.
-    bindLimited (limited s c2 256) (λ labels c3.
-    bindChecked (returnCheck s c3) (λ c4. bindLimited (limited s c4 4096) (λ instrs c5. listsCheck s vars params instrs c5)))))
+    bindLimited (limited s c2 256) (λ labels c3. restCheck s vars params c3)))

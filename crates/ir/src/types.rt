@@ -1,0 +1,143 @@
+// Krc's answers on types and operands.
+use crate::Operand;
+use crate::Type;
+use x86::enums::Size;
+ghost use mathlib.Core.Path.{_≡_};
+ghost use Prim.Native.Nat.{_≤_};
+ghost use Rattle.ir.specs.Types.{isScalar, elementWidth, bytes, typeSize, isFloat, isUnsigned, elfSize, operandSize};
+ghost use Rattle.ir.specs.Answers.{numberSays};
+
+// A number, or the number of a refusal.
+pub enum Number {
+    Is(u64),
+    Refused(u64),
+}
+
+// The bytes of an element, by its code; 0 for what has no width.
+fn element_width(code: u64) -> u64
+    ensures { λ r. ⌜ (r ≡ elementWidth code) × (r ≤ 8) ⌝ }
+{
+    match code {
+        1 => 8,
+        2 => 8,
+        3 => 4,
+        4 => 4,
+        5 => 8,
+        6 => 4,
+        7 => 1,
+        8 => 1,
+        9 => 1,
+        10 => 8,
+        _ => 0,
+    }
+}
+
+impl Type {
+    pub const NO_ARRAY: u64 = 0xffff_ffff_ffff_ffff;
+
+    pub fn is_scalar(self) -> bool
+        ensures { λ r. ⌜ r ≡ isScalar self ⌝ }
+    {
+        self.count == Type::NO_ARRAY
+    }
+
+    // The bytes of a variable; 0 where the type has no width.
+    pub fn bytes(self) -> u64
+        ensures { λ r. ⌜ (r ≡ bytes self) × (r ≤ 8388608) ⌝ }
+    {
+        let width = element_width(self.code);
+        let count = self.count;
+        if self.is_scalar() {
+            return width;
+        }
+        if count < 1048576 {
+            width * count
+        } else {
+            width * 1048576
+        }
+    }
+
+    pub fn size(self) -> Number
+        ensures { λ r. ⌜ numberSays r ≡ typeSize self ⌝ }
+    {
+        if element_width(self.code) == 0 {
+            Number::Refused(4)
+        } else {
+            Number::Is(self.bytes())
+        }
+    }
+
+    pub fn is_float(self) -> bool
+        ensures { λ r. ⌜ r ≡ isFloat self ⌝ }
+    {
+        let code = self.code;
+        if self.is_scalar() {
+            match code {
+                5 => true,
+                6 => true,
+                _ => false,
+            }
+        } else {
+            false
+        }
+    }
+
+    pub fn is_unsigned(self) -> bool
+        ensures { λ r. ⌜ r ≡ isUnsigned self ⌝ }
+    {
+        let code = self.code;
+        if self.is_scalar() {
+            match code {
+                1 => false,
+                3 => false,
+                5 => false,
+                6 => false,
+                _ => true,
+            }
+        } else {
+            true
+        }
+    }
+
+    pub fn to_elf_size(self) -> Size
+        ensures { λ r. ⌜ r ≡ elfSize self ⌝ }
+    {
+        let code = self.code;
+        if self.is_scalar() {
+            let width = element_width(code);
+            match width {
+                1 => Size::U8,
+                4 => Size::U32,
+                8 => Size::U64,
+                _ => Size::NoSize,
+            }
+        } else {
+            Size::U64
+        }
+    }
+}
+
+impl Operand {
+    pub fn size(self) -> Size
+        ensures { λ r. ⌜ r ≡ operandSize self ⌝ }
+    {
+        match self {
+            Operand::Var(v) => {
+                let ty = v.ty;
+                ty.to_elf_size()
+            }
+            Operand::Int(_, short, _) => {
+                if short {
+                    Size::U32
+                } else {
+                    Size::U64
+                }
+            }
+            Operand::Float(_) => Size::U64,
+            Operand::Bool(_) => Size::U8,
+            Operand::Address(_) => Size::U64,
+            Operand::DataAddress(_) => Size::U64,
+            Operand::Null => Size::NoSize,
+        }
+    }
+}

@@ -1,0 +1,14 @@
+// The layout of tables and sheet: the first wrong cell in reading order, with refusal 1, 2 or 3.
+use cells::Cursor;
+
+// What reading a cell with a limit finds: the cell and the cursor behind it, or the refusal's number and cell.
+pub enum Limited {
+    Word(u64, Cursor),
+    Refused(u64, usize),
+}
+
+// What checking a part of a layout finds: the cursor behind it, or the refusal's number and cell.
+pub enum Checked {
+    Behind(Cursor),
+    Refused(u64, usize),
+}
