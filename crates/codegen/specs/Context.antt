@@ -1,20 +1,20 @@
--- What the code of a function needs to know besides its instructions: Krc's `Context` (codegen/generation.rs), and its look-ups.
+-- What operands are looked up in: Krc's `Context` (codegen/generation.rs), but for the number of labels and the return type, which stand beside it.
 use Prim.Native.Nat.{ℕ}
 use mathlib.Core.List.{List}
 use mathlib.Core.Bool.{Bool, cond}
 use lib.ListN.{length, getD}
 use lib.Dec.{ltb}
 use Rattle.cells.specs.Cells.{minus}
-use Rattle.ir.specs.declared.«Type».{«Type» as IrType}
 use Rattle.ir.specs.Types.{Result, ok, refused}
 use Rattle.ir.specs.Function.{Tables}
 
--- the tables, each variable's offset under RBP, the number of labels and the return type
+-- the tables, and each variable's offset under RBP
 pub record Context : Type 0 where
   pub tables : Tables
   pub offsets : List ℕ
-  pub labels : ℕ
-  pub ret : IrType
+
+abbrev pub contextOf : Tables → List ℕ → Context
+contextOf tables offsets = record { tables = tables; offsets = offsets }
 
 -- `-ctx.offsets[id]`: a variable's displacement from RBP, as a two's complement pattern
 unfoldable pub displacement : Context → ℕ → Result ℕ
@@ -32,6 +32,6 @@ floatAt ctx id = cond (ltb id (ctx .tables .floats)) (ok id) (refused 5)
 unfoldable pub floatShort : Context → ℕ → Result Bool
 floatShort ctx id = cond (ltb id (ctx .tables .floats)) (ok (ctx .tables .short id)) (refused 5)
 
--- `ctx.labels[id]`
-unfoldable pub labelAt : Context → ℕ → Result ℕ
-labelAt ctx id = cond (ltb id (ctx .labels)) (ok id) (refused 5)
+-- `ctx.labels[id]`, of so many labels
+unfoldable pub labelAt : ℕ → ℕ → Result ℕ
+labelAt labels id = cond (ltb id labels) (ok id) (refused 5)

@@ -4,6 +4,7 @@ use mathlib.Core.List.{List, [], _∷_, _++_}
 use mathlib.Core.Bool.{Bool, true, false, cond}
 use lib.ListN.{length, drop}
 use lib.Dec.{ltb}
+use Rattle.ir.specs.declared.«Type».{«Type» as IrType}
 use Rattle.ir.specs.declared.Instr.{Instr}
 use Rattle.ir.specs.declared.Operand.{Operand as IrOp}
 use Rattle.layout.specs.declared.Checked.{Checked}
@@ -15,7 +16,7 @@ use Rattle.x86.specs.declared.enums.CtrlOp.{CtrlOp}
 use Rattle.x86.specs.declared.enums.Operand.{Operand}
 use Rattle.x86.specs.declared.enums.Instruction.{Instruction}
 use Rattle.x86.specs.Records.{listBytes}
-use Rattle.codegen.specs.Context.{Context}
+use Rattle.codegen.specs.Context.{Context, contextOf}
 use Rattle.codegen.specs.Instructions.{funcEpilogue, generateReturn, generateCopy, generateCast, generateZero, generateCall, generateJmpIfNot, generateLabel, generateJump}
 use Rattle.codegen.specs.Arithmetic.{generateBinary, generateUnary}
 use Rattle.codegen.specs.Frame.{varOffsets, frame, funcPrologue}
@@ -37,29 +38,29 @@ at place (types.refused n) = refused n place
 
 -- ---- instructions
 
--- `generate_instruction`; `args` are a call's arguments
-unfoldable pub generateInstr : Context → Instr → List IrOp → Result (List Instruction)
-generateInstr ctx (Instr.Copy dest src) args = generateCopy ctx dest src
-generateInstr ctx (Instr.Unary dest op src) args = generateUnary ctx dest op src
-generateInstr ctx (Instr.Binary dest op left right) args = generateBinary ctx dest (binaryOp op) left right
-generateInstr ctx (Instr.Cast dest src) args = generateCast ctx dest src
-generateInstr ctx (Instr.Zero dest) args = generateZero ctx dest
-generateInstr ctx (Instr.Call dest symbol count) args = generateCall ctx dest symbol args
-generateInstr ctx (Instr.Label l) args = generateLabel ctx l
-generateInstr ctx (Instr.Jump l) args = generateJump ctx l
-generateInstr ctx (Instr.JumpIfNot condition target) args = generateJmpIfNot ctx condition target
-generateInstr ctx (Instr.Return op) args = generateReturn ctx op
-generateInstr ctx Instr.Comment args = ok []
+-- `generate_instruction`, in a function of so many labels and a return type; `args` are a call's arguments
+unfoldable pub generateInstr : Context → ℕ → IrType → Instr → List IrOp → Result (List Instruction)
+generateInstr ctx labels ret (Instr.Copy dest src) args = generateCopy ctx dest src
+generateInstr ctx labels ret (Instr.Unary dest op src) args = generateUnary ctx dest op src
+generateInstr ctx labels ret (Instr.Binary dest op left right) args = generateBinary ctx dest (binaryOp op) left right
+generateInstr ctx labels ret (Instr.Cast dest src) args = generateCast ctx dest src
+generateInstr ctx labels ret (Instr.Zero dest) args = generateZero ctx dest
+generateInstr ctx labels ret (Instr.Call dest symbol count) args = generateCall ctx dest symbol args
+generateInstr ctx labels ret (Instr.Label l) args = generateLabel labels l
+generateInstr ctx labels ret (Instr.Jump l) args = generateJump labels l
+generateInstr ctx labels ret (Instr.JumpIfNot condition target) args = generateJmpIfNot ctx labels condition target
+generateInstr ctx labels ret (Instr.Return op) args = generateReturn ctx ret op
+generateInstr ctx labels ret Instr.Comment args = ok []
 
-abbrev pub generateInstruction : Context → Line → Result (List Instruction)
-generateInstruction ctx line = generateInstr ctx (line .instr) (line .args)
+abbrev pub generateInstruction : Context → ℕ → IrType → Line → Result (List Instruction)
+generateInstruction ctx labels ret line = generateInstr ctx labels ret (line .instr) (line .args)
 
 -- the body, its first line of number i
-unfoldable pub generateBody : Context → ℕ → List Line → Outcome (List Instruction)
-generateBody ctx i [] = accepted []
-generateBody ctx i (line ∷ lines) = do
-  records ← at i (generateInstruction ctx line)
-  rest ← generateBody ctx (suc i) lines
+unfoldable pub generateBody : Context → ℕ → IrType → ℕ → List Line → Outcome (List Instruction)
+generateBody ctx labels ret i [] = accepted []
+generateBody ctx labels ret i (line ∷ lines) = do
+  records ← at i (generateInstruction ctx labels ret line)
+  rest ← generateBody ctx labels ret (suc i) lines
   accepted (records ++ rest)
 
 -- ---- the epilogue
@@ -96,14 +97,11 @@ withEpilogue is = cond (endsInRet is) is (is ++ funcEpilogue)
 
 -- ---- generate
 
-abbrev pub contextOf : Tables → Function → List ℕ → Context
-contextOf tables F offsets = record { tables = tables; offsets = offsets; labels = F .labels; ret = F .ret }
-
 unfoldable pub generate : Tables → Function → Outcome (List Instruction)
 generate tables F = do
   offsets ← at 0 (varOffsets (F .vars))
-  prologue ← at 0 (funcPrologue (contextOf tables F offsets) (frame (F .vars)) (F .params))
-  body ← generateBody (contextOf tables F offsets) 1 (F .body)
+  prologue ← at 0 (funcPrologue (contextOf tables offsets) (frame (F .vars)) (F .params))
+  body ← generateBody (contextOf tables offsets) (F .labels) (F .ret) 1 (F .body)
   accepted (withEpilogue (prologue ++ body))
 
 -- ---- the whole answer, for tables, sheet and the length of the record bytes

@@ -4,6 +4,7 @@ use mathlib.Core.List.{List, [], _∷_, _++_}
 use mathlib.Core.Bool.{Bool, true, false, cond, not, _&&_, _||_, Bool·beq}
 use lib.ListN.{length, getD}
 use lib.Dec.{eqb, leb, ltb}
+use Rattle.ir.specs.declared.«Type».{«Type» as IrType}
 use Rattle.ir.specs.declared.VarId.{VarId}
 use Rattle.ir.specs.declared.Operand.{Operand as IrOp}
 use Rattle.ir.specs.declared.Dest.{Dest}
@@ -35,8 +36,8 @@ funcEpilogue =
     ∷ Instruction.Ctrl CtrlOp.Ret Operand.NoOperand ∷ []
 
 -- the value comes back in XMM0 for a float return type, else in RAX
-unfoldable pub generateReturn : Context → IrOp → Result (List Instruction)
-generateReturn ctx op = loadOperand ctx (cond (isFloat (ctx .ret)) (xmm 0) RAX) op Size.NoSize >>= λ load. ok (load ∷ funcEpilogue)
+unfoldable pub generateReturn : Context → IrType → IrOp → Result (List Instruction)
+generateReturn ctx ret op = loadOperand ctx (cond (isFloat ret) (xmm 0) RAX) op Size.NoSize >>= λ load. ok (load ∷ funcEpilogue)
 
 -- ---- operand_kind
 
@@ -186,14 +187,14 @@ generateCall ctx dest symbol args = do
 -- ---- jumps
 
 -- `mov al, cond ; cmp al, 0 ; je target`
-unfoldable pub generateJmpIfNot : Context → IrOp → ℕ → Result (List Instruction)
-generateJmpIfNot ctx condition target = do
+unfoldable pub generateJmpIfNot : Context → ℕ → IrOp → ℕ → Result (List Instruction)
+generateJmpIfNot ctx labels condition target = do
   load ← loadOperand ctx RAX condition Size.U8
-  label ← labelAt ctx target
+  label ← labelAt labels target
   ok (load ∷ Instruction.Binary BinOp.Cmp (Operand.Reg RAX) (Operand.Imm 0) Size.U8 ∷ Instruction.Ctrl (CtrlOp.JmpCC ConditionCode.E) (Operand.Label label) ∷ [])
 
-unfoldable pub generateLabel : Context → ℕ → Result (List Instruction)
-generateLabel ctx l = labelAt ctx l >>= λ label. ok (Instruction.Label label ∷ [])
+unfoldable pub generateLabel : ℕ → ℕ → Result (List Instruction)
+generateLabel labels l = labelAt labels l >>= λ label. ok (Instruction.Label label ∷ [])
 
-unfoldable pub generateJump : Context → ℕ → Result (List Instruction)
-generateJump ctx l = labelAt ctx l >>= λ label. ok (Instruction.Ctrl CtrlOp.Jmp (Operand.Label label) ∷ [])
+unfoldable pub generateJump : ℕ → ℕ → Result (List Instruction)
+generateJump labels l = labelAt labels l >>= λ label. ok (Instruction.Ctrl CtrlOp.Jmp (Operand.Label label) ∷ [])

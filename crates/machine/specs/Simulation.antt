@@ -13,9 +13,9 @@ use Rattle.ir.specs.Types.{Result, ok, bytes}
 use Rattle.ir.specs.Function.{Function, Line, Tables, tablesOf, functionOf}
 use Rattle.x86.specs.declared.enums.Instruction.{Instruction}
 use Rattle.x86.specs.Decode.{decodeList}
-use Rattle.codegen.specs.Context.{Context}
+use Rattle.codegen.specs.Context.{Context, contextOf}
 use Rattle.codegen.specs.Frame.{offsetsFrom, frame, funcPrologue}
-use Rattle.codegen.specs.Generation.{generateInstruction, contextOf}
+use Rattle.codegen.specs.Generation.{generateInstruction}
 use Rattle.machine.specs.Word.{W, bound, above, load}
 use Rattle.machine.specs.Machine as x86
 use Rattle.machine.specs.Machine.{State, Choice}
@@ -59,17 +59,17 @@ recordsOf (ok is) = is
 recordsOf (types.refused n) = []
 
 abbrev pub contextFor : Tables → Function → Context
-contextFor tables F = contextOf tables F (offsetsFrom 0 (F .vars))
+contextFor tables F = contextOf tables (offsetsFrom 0 (F .vars))
 
-unfoldable pub recordsOfLines : Context → List Line → List Instruction
-recordsOfLines ctx [] = []
-recordsOfLines ctx (l ∷ ls) = recordsOf (generateInstruction ctx l) ++ recordsOfLines ctx ls
+unfoldable pub recordsOfLines : Tables → Function → List Line → List Instruction
+recordsOfLines tables F [] = []
+recordsOfLines tables F (l ∷ ls) = recordsOf (generateInstruction (contextFor tables F) (F .labels) (F .ret) l) ++ recordsOfLines tables F ls
 
 -- behind the prologue and the records of all instructions before instruction k
 unfoldable pub place : Tables → Function → ℕ → ℕ
 place tables F k =
     length (recordsOf (funcPrologue (contextFor tables F) (frame (F .vars)) (F .params)))
-    + length (recordsOfLines (contextFor tables F) (take k (F .body)))
+    + length (recordsOfLines tables F (take k (F .body)))
 
 -- behind the Ret by which F returns from instruction k, or with none left
 abbrev pub behindRet : Tables → Function → List Instruction → ℕ → ℕ

@@ -1,0 +1,3 @@
+#[rustfmt::skip]
+#[path = "../../target/krc/converter/ir/structs.rs"]
+pub mod structs;

@@ -1,0 +1,4 @@
+pub mod elfsym;
+pub mod file;
+pub mod instructions;
+pub mod shdr;

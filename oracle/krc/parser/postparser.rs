@@ -1,0 +1,3 @@
+#[rustfmt::skip]
+#[path = "../../target/krc/parser/postparser/structs.rs"]
+pub mod structs;

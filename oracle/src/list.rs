@@ -1,0 +1,31 @@
+//! The fixed list of cases, the same on every run.
+
+use std::collections::HashSet;
+
+use crate::cases::{any, damaged, limits, plain, plain_edges, systematic};
+use crate::compact::Case;
+use crate::rng::Rng;
+
+/// Random functions of every kind, plain ones, and damaged copies.
+const ANY: usize = 300;
+const PLAIN: usize = 250;
+const DAMAGED: usize = 250;
+
+pub fn cases() -> Vec<Case> {
+    let mut rng = Rng::new(1);
+    let limits = limits::cases();
+    let small: Vec<Case> = limits.iter().filter(|case| case.sheet.len() < 8_000).cloned().collect();
+    let listed = [systematic::drafts(), plain_edges::drafts()].concat();
+    let mut all: Vec<Case> = listed.iter().map(|draft| draft.input().with_exact_room()).collect();
+    all.extend((0..ANY).map(|_| any::draft(&mut rng).input().with_random_room(&mut rng)));
+    all.extend((0..PLAIN).map(|_| plain::draft(&mut rng).input().with_random_room(&mut rng)));
+    all.extend((0..DAMAGED).map(|_| damaged(&mut rng, &small)));
+    all.extend(limits);
+    without_repeats(all)
+}
+
+fn without_repeats(cases: Vec<Case>) -> Vec<Case> {
+    let mut seen = HashSet::new();
+    let fresh = |case: &Case| seen.insert((case.tables.clone(), case.sheet.clone(), case.out_len));
+    cases.into_iter().filter(fresh).collect()
+}

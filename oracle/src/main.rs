@@ -1,0 +1,92 @@
+//! Reference answers for the lowering, from Krc's own code.
+
+mod cases;
+mod cells;
+mod compact;
+mod list;
+mod listing;
+mod lower;
+mod panics;
+mod plain;
+mod processor;
+mod program;
+mod read;
+mod rng;
+mod sheet;
+mod show;
+mod steps;
+#[cfg(test)]
+mod tests;
+
+use std::io::{self, BufWriter, Read, Write};
+use std::process::ExitCode;
+use std::{env, fs};
+
+const USAGE: &str = "usage: oracle answer < CELLS
+       oracle cases SEED COUNT
+       oracle list OUT
+       oracle show FILE [N]
+       oracle processor SEED COUNT";
+
+fn main() -> ExitCode {
+    let args: Vec<String> = env::args().skip(1).collect();
+    let words: Vec<&str> = args.iter().map(String::as_str).collect();
+    match command(&words) {
+        Ok(()) => ExitCode::SUCCESS,
+        Err(message) => {
+            eprintln!("{message}");
+            ExitCode::FAILURE
+        }
+    }
+}
+
+fn command(words: &[&str]) -> Result<(), String> {
+    match words {
+        ["answer"] => answer(),
+        ["cases", seed, count] => random(number(seed)?, number(count)? as usize),
+        ["list", out] => {
+            fs::write(out, compact::file(&list::cases())).map_err(|error| format!("{out}: {error}"))
+        }
+        ["show", file] => print(show::summary(&cases_of(file)?).as_bytes()),
+        ["show", file, n] => {
+            let cases = cases_of(file)?;
+            let case = cases.get(number(n)? as usize).ok_or("no such case")?;
+            print(case.to_string().as_bytes())
+        }
+        ["processor", seed, count] => {
+            let summary = processor::test(number(seed)?, number(count)? as usize)?;
+            print(summary.as_bytes())
+        }
+        _ => Err(USAGE.to_string()),
+    }
+}
+
+fn number(word: &str) -> Result<u64, String> {
+    word.parse().map_err(|_| format!("{word} is no number"))
+}
+
+fn answer() -> Result<(), String> {
+    let mut input = Vec::new();
+    io::stdin().read_to_end(&mut input).map_err(|error| error.to_string())?;
+    print(listing::listing(&input).as_bytes())
+}
+
+fn random(seed: u64, count: usize) -> Result<(), String> {
+    let mut out = BufWriter::new(io::stdout().lock());
+    let mut bytes = compact::head(count);
+    for case in cases::random(seed, count) {
+        compact::put_case(&mut bytes, &case);
+        out.write_all(&bytes).map_err(|error| error.to_string())?;
+        bytes.clear();
+    }
+    out.write_all(&bytes).and_then(|()| out.flush()).map_err(|error| error.to_string())
+}
+
+fn cases_of(file: &str) -> Result<Vec<compact::Case>, String> {
+    let bytes = fs::read(file).map_err(|error| format!("{file}: {error}"))?;
+    compact::parse(&bytes).ok_or(format!("{file} is no file of cases"))
+}
+
+fn print(bytes: &[u8]) -> Result<(), String> {
+    io::stdout().write_all(bytes).map_err(|error| error.to_string())
+}

@@ -1,0 +1,194 @@
+//! The processor test: Krc's lists of plain functions, run natively and held against the
+//! functions' own steps.
+
+mod asm;
+mod batch;
+mod trial;
+
+use crate::rng::Rng;
+use crate::sheet::{Instr, binary};
+use crate::steps::End;
+use batch::{BuildFolder, Outcome};
+use krc::record::Record;
+use trial::{COUNTER, Entry, POSITION, RBP, RSP, SAVED, Trial, frame, slots};
+
+/// Functions assembled together.
+const BATCH: usize = 500;
+const SIGFPE: u64 = 8;
+const RAX: usize = 0;
+
+#[derive(Default)]
+struct Totals {
+    functions: usize,
+    runs: usize,
+    values: usize,
+    fell_off: usize,
+    faults: usize,
+    records: u64,
+    most_records: u64,
+    steps: u64,
+    most_steps: u64,
+}
+
+/// Runs `count` functions; an error tells the first difference.
+pub fn test(seed: u64, count: usize) -> Result<String, String> {
+    let mut rng = Rng::new(seed);
+    let mut totals = Totals::default();
+    let folder = BuildFolder::open()?;
+    while totals.functions < count {
+        let size = BATCH.min(count - totals.functions);
+        let trials: Vec<Trial> = (0..size).map(|_| trial::draw(&mut rng)).collect();
+        test_batch(&folder, &trials, &mut totals)
+            .map_err(|error| format!("{error}\nleft in {}", folder.place().display()))?;
+    }
+    folder.close();
+    Ok(summary(&totals))
+}
+
+fn summary(totals: &Totals) -> String {
+    format!(
+        "{} functions, {} runs: {} returned a value, {} fell off the end, {} faulted; \
+         {} steps (at most {} in a run), {} records run (at most {})\n",
+        totals.functions,
+        totals.runs,
+        totals.values,
+        totals.fell_off,
+        totals.faults,
+        totals.steps,
+        totals.most_steps,
+        totals.records,
+        totals.most_records,
+    )
+}
+
+fn test_batch(folder: &BuildFolder, trials: &[Trial], totals: &mut Totals) -> Result<(), String> {
+    for counting in [false, true] {
+        let mut outcomes = folder.run(trials, counting)?.into_iter();
+        for trial in trials {
+            for (entry, outcome) in trial.entries.iter().zip(&mut outcomes) {
+                compare(trial, entry, &outcome, counting)
+                    .map_err(|difference| report(trial, entry, &difference))?;
+                if counting {
+                    totals.add(entry, outcome.registers[COUNTER]);
+                }
+            }
+        }
+    }
+    totals.functions += trials.len();
+    Ok(())
+}
+
+impl Totals {
+    fn add(&mut self, entry: &Entry, records: u64) {
+        self.runs += 1;
+        match entry.run.end {
+            End::Value { .. } => self.values += 1,
+            End::FellOff => self.fell_off += 1,
+            _ => self.faults += 1,
+        }
+        self.records += records;
+        self.most_records = self.most_records.max(records);
+        self.steps += entry.run.steps;
+        self.most_steps = self.most_steps.max(entry.run.steps);
+    }
+}
+
+fn report(trial: &Trial, entry: &Entry, difference: &str) -> String {
+    let list: Vec<String> = trial.list.iter().map(|record| format!("    {record:?}")).collect();
+    let end = format!("steps {}, end {:?}", entry.run.steps, entry.run.end);
+    let registers = format!("registers at entry {:x?}", entry.registers);
+    format!("{difference}\n{}{}\n{registers}\n{end}", trial.sheet, list.join("\n"))
+}
+
+fn compare(trial: &Trial, entry: &Entry, outcome: &Outcome, counting: bool) -> Result<(), String> {
+    compare_end(trial, entry, outcome)?;
+    compare_saved(entry, outcome, counting)?;
+    compare_region(trial, entry, outcome)?;
+    if counting {
+        compare_count(entry, outcome.registers[COUNTER])?;
+        compare_position(trial, entry, outcome.registers[POSITION] as usize)?;
+    }
+    Ok(())
+}
+
+fn same<T: PartialEq + std::fmt::Debug>(what: &str, wanted: T, found: T) -> Result<(), String> {
+    if wanted == found {
+        return Ok(());
+    }
+    Err(format!("{what}: wanted {wanted:x?}, found {found:x?}"))
+}
+
+/// Return or fault, the value, RSP and RBP.
+fn compare_end(trial: &Trial, entry: &Entry, outcome: &Outcome) -> Result<(), String> {
+    let registers = &outcome.registers;
+    if entry.run.end == End::Fault {
+        same("signal", SIGFPE, outcome.signal)?;
+        let bottom = outcome.base - frame(&trial.sheet) as u64;
+        same("RSP at the fault", bottom, registers[RSP])?;
+        return same("RBP at the fault", outcome.base, registers[RBP]);
+    }
+    same("signal", 0, outcome.signal)?;
+    same("RSP", outcome.base + 16, registers[RSP])?;
+    same("RBP", entry.registers[RBP], registers[RBP])?;
+    if let End::Value { value, width } = entry.run.end {
+        let low = registers[RAX] & (u64::MAX >> (64 - 8 * width));
+        return same("value", value, low);
+    }
+    Ok(())
+}
+
+/// The callee-saved registers; the counting build uses two of them.
+fn compare_saved(entry: &Entry, outcome: &Outcome, counting: bool) -> Result<(), String> {
+    for register in SAVED {
+        if !(counting && [COUNTER, POSITION].contains(&register)) {
+            let name = format!("saved register {register}");
+            same(&name, entry.registers[register], outcome.registers[register])?;
+        }
+    }
+    Ok(())
+}
+
+/// Every byte of the frame and around it.
+fn compare_region(trial: &Trial, entry: &Entry, outcome: &Outcome) -> Result<(), String> {
+    let mut wanted = entry.region.clone();
+    let link = [entry.registers[RBP], outcome.back].map(u64::to_le_bytes).concat();
+    wanted[entry.below..entry.below + link.len()].copy_from_slice(&link);
+    for (slot, bytes) in slots(&trial.sheet, entry.below).into_iter().zip(&entry.run.variables) {
+        wanted[slot].copy_from_slice(bytes);
+    }
+    match (0..wanted.len()).find(|at| wanted[*at] != outcome.region[*at]) {
+        None => Ok(()),
+        Some(at) => {
+            let name = format!("byte at B {:+}", at as i64 - entry.below as i64);
+            same(&name, wanted[at], outcome.region[at])
+        }
+    }
+}
+
+/// At most 12 records, and 5 for each step.
+fn compare_count(entry: &Entry, records: u64) -> Result<(), String> {
+    let bound = 12 + 5 * entry.run.steps;
+    if records <= bound {
+        return Ok(());
+    }
+    Err(format!("{records} records run, the bound is {bound}"))
+}
+
+/// The last record run belongs to the last instruction run: each Return makes one Ret, each
+/// Div or Rem one Div, in order; falling off the end leads to the last Ret.
+fn compare_position(trial: &Trial, entry: &Entry, position: usize) -> Result<(), String> {
+    let before = &trial.sheet.body[..entry.run.last];
+    let (wanted, instructions): ([i64; 2], usize) = match entry.run.end {
+        End::Fault => ([4, 3], before.iter().filter(|instr| divides(instr)).count()),
+        End::FellOff => return same("last record", trial.list.len() - 1, position),
+        _ => ([6, 2], before.iter().filter(|instr| matches!(instr, Instr::Return(_))).count()),
+    };
+    let is_wanted = |record: &Record| record[..2] == wanted;
+    let places = trial.list.iter().enumerate().filter(|(_, record)| is_wanted(record));
+    let place = places.map(|(place, _)| place).nth(instructions - 1);
+    same("last record", place, Some(position))
+}
+
+fn divides(instr: &Instr) -> bool {
+    matches!(instr, Instr::Binary { op: binary::DIV | binary::REM, .. })
+}

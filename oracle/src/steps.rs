@@ -1,0 +1,184 @@
+//! The steps of a plain integer function, over the bytes of its variables.
+
+use crate::sheet::*;
+
+#[derive(Clone, Copy, PartialEq, Eq, Debug)]
+pub enum End {
+    /// By a Return, with a value of `width` bytes.
+    Value { value: u64, width: usize },
+    /// With no instruction left.
+    FellOff,
+    /// Div or Rem by zero.
+    Fault,
+    /// The bound on steps was reached.
+    Unended,
+}
+
+pub struct Run {
+    pub end: End,
+    pub steps: u64,
+    /// The bytes of each variable at the end.
+    pub variables: Vec<Vec<u8>>,
+    /// The number of the last instruction run, from 1; 0 when none was.
+    pub last: usize,
+}
+
+/// Runs a plain sheet from the given bytes, at most `bound` steps.
+pub fn run(sheet: &Sheet, variables: Vec<Vec<u8>>, bound: u64) -> Run {
+    let mut run = Run { end: End::Unended, steps: 0, variables, last: 0 };
+    let mut next = 0;
+    while run.steps < bound || next >= sheet.body.len() {
+        let Some(instr) = sheet.body.get(next) else {
+            run.end = End::FellOff;
+            return run;
+        };
+        run.steps += 1;
+        run.last = next + 1;
+        match step(sheet, instr, &mut run.variables) {
+            Flow::Next => next += 1,
+            Flow::To(label) => next = place_of(sheet, label),
+            Flow::End(end) => {
+                run.end = end;
+                return run;
+            }
+        }
+    }
+    run
+}
+
+enum Flow {
+    Next,
+    To(i64),
+    End(End),
+}
+
+fn place_of(sheet: &Sheet, label: i64) -> usize {
+    let place = sheet.body.iter().position(|instr| *instr == Instr::Label(label));
+    place.expect("a plain jump has a label")
+}
+
+fn step(sheet: &Sheet, instr: &Instr, variables: &mut [Vec<u8>]) -> Flow {
+    let of = |operand: &Operand| value(operand, variables);
+    let (dest, result) = match instr {
+        Instr::Copy { dest, src } => (dest, of(src).bits),
+        Instr::Unary { op, dest, src } => (dest, unary_result(*op, of(src).bits)),
+        Instr::Binary { op, dest, left, right } => {
+            match binary_result(*op, dest.ty, of(left), of(right)) {
+                Some(result) => (dest, result),
+                None => return Flow::End(End::Fault),
+            }
+        }
+        Instr::Cast { dest, src } => (dest, widened(of(src))),
+        Instr::Zero(dest) => {
+            variables[dest.id as usize].fill(0);
+            return Flow::Next;
+        }
+        Instr::Jump(label) => return Flow::To(*label),
+        Instr::JumpIfNot { cond, label } => {
+            return if of(cond).bits == 0 { Flow::To(*label) } else { Flow::Next };
+        }
+        Instr::Return(operand) => {
+            let Value { bits, width, .. } = of(operand);
+            return Flow::End(End::Value { value: bits, width });
+        }
+        Instr::Label(_) | Instr::Comment => return Flow::Next,
+        Instr::Call { .. } => panic!("a call is not plain on sheet {sheet:?}"),
+    };
+    let bytes = &mut variables[dest.id as usize];
+    let width = bytes.len();
+    bytes.copy_from_slice(&result.to_le_bytes()[..width]);
+    Flow::Next
+}
+
+/// An operand's value: unsigned, below 2 to the width in bits.
+#[derive(Clone, Copy)]
+struct Value {
+    bits: u64,
+    width: usize,
+    signed: bool,
+}
+
+impl Value {
+    fn new(bits: u64, width: usize, signed: bool) -> Self {
+        Self { bits: bits & mask(width), width, signed }
+    }
+
+    fn as_signed(self) -> i64 {
+        let unused = 64 - 8 * self.width as u32;
+        ((self.bits << unused) as i64) >> unused
+    }
+}
+
+fn mask(width: usize) -> u64 {
+    u64::MAX >> (64 - 8 * width)
+}
+
+fn value(operand: &Operand, variables: &[Vec<u8>]) -> Value {
+    match operand {
+        Operand::Var(var) => {
+            let bytes = &variables[var.id as usize];
+            let mut cell = [0; 8];
+            cell[..bytes.len()].copy_from_slice(bytes);
+            let signed = matches!(var.ty.code, LONG | SHORT);
+            Value::new(u64::from_le_bytes(cell), bytes.len(), signed)
+        }
+        Operand::Int { value, short, unsigned } => {
+            Value::new(*value as u64, if *short { 4 } else { 8 }, !unsigned)
+        }
+        Operand::Bool(value) => Value::new(u64::from(*value), 1, false),
+        Operand::Null => Value::new(0, 8, false),
+        other => panic!("{other:?} is not plain"),
+    }
+}
+
+/// One byte widens with zeros, four with the sign; narrowing keeps the low bytes.
+fn widened(value: Value) -> u64 {
+    if value.width == 4 { value.as_signed() as u64 } else { value.bits }
+}
+
+fn unary_result(op: i64, bits: u64) -> u64 {
+    match op {
+        unary::NEG => bits.wrapping_neg(),
+        unary::BIT_NOT => !bits,
+        _ => bits ^ 1,
+    }
+}
+
+/// The result, of which dest keeps the low bytes; none on division by zero.
+fn binary_result(op: i64, dest: Type, left: Value, right: Value) -> Option<u64> {
+    let (a, b) = (left.bits, right.bits);
+    if binary::is_comparison(op) {
+        return Some(u64::from(compare(op, left, right)));
+    }
+    let count = b % if left.width == 8 { 64 } else { 32 };
+    Some(match op {
+        binary::BIT_OR => a | b,
+        binary::BIT_XOR => a ^ b,
+        binary::BIT_AND => a & b,
+        binary::ADD => a.wrapping_add(b),
+        binary::SUB => a.wrapping_sub(b),
+        binary::MUL => a.wrapping_mul(b),
+        binary::DIV => a.checked_div(b)?,
+        binary::REM => a.checked_rem(b)?,
+        binary::SHL => a << count,
+        binary::SHR if matches!(dest.code, LONG | SHORT) => (left.as_signed() >> count) as u64,
+        binary::SHR => a >> count,
+        op => panic!("operation {op} is not plain"),
+    })
+}
+
+fn compare(op: i64, left: Value, right: Value) -> bool {
+    let order = if left.signed {
+        left.as_signed().cmp(&right.as_signed())
+    } else {
+        left.bits.cmp(&right.bits)
+    };
+    match op {
+        binary::EQ => order.is_eq(),
+        binary::NOT_EQ => order.is_ne(),
+        binary::LT => order.is_lt(),
+        binary::LE => order.is_le(),
+        binary::GT => order.is_gt(),
+        _ => order.is_ge(),
+    }
+}

@@ -1,0 +1,473 @@
+//! The twelve cases, and the answers where Krc's order of evaluation decides.
+
+use crate::cases::{Draft, any, limits, plain};
+use crate::cells::to_bytes;
+use crate::compact::{file, parse};
+use crate::listing::listing;
+use crate::lower::{answer, lower};
+use crate::plain::faults;
+use crate::read::{Refusal, read_sheet, read_tables};
+use crate::rng::Rng;
+use crate::sheet::*;
+use crate::steps::{End, run};
+use crate::{list, steps};
+use krc::record::Record;
+
+const RBP_PLUS: i64 = 5;
+
+fn var(id: i64, code: i64) -> Variable {
+    Variable { id, ty: Type::scalar(code) }
+}
+
+fn array(id: i64, code: i64, count: i64) -> Variable {
+    Variable { id, ty: Type::array(code, count) }
+}
+
+fn long(value: i64) -> Operand {
+    Operand::Int { value, short: false, unsigned: false }
+}
+
+fn short(value: i64) -> Operand {
+    Operand::Int { value, short: true, unsigned: false }
+}
+
+/// Variable k has code k + 1, up to Address; then Byte[2], Byte[3] and Byte[0].
+fn sheet(body: Vec<Instr>) -> Sheet {
+    let mut variables: Vec<Type> = (LONG..=ADDRESS).map(Type::scalar).collect();
+    variables.extend([2, 3, 0].map(|count| Type::array(BYTE, count)));
+    Sheet { variables, labels: 1, body, ..Sheet::default() }
+}
+
+fn own(code: i64) -> Variable {
+    var(code - 1, code)
+}
+
+fn read(code: i64) -> Operand {
+    Operand::Var(own(code))
+}
+
+/// An id without an entry.
+fn beyond(code: i64) -> Variable {
+    var(13, code)
+}
+
+fn tables() -> Tables {
+    Tables { strings: 1, floats: vec![false, true] }
+}
+
+fn lowered(sheet: &Sheet) -> Result<Vec<Record>, (u64, u64)> {
+    lower(&tables(), sheet).map_err(|refusal| (refusal.number, refusal.place))
+}
+
+/// The records of one instruction, without prologue and epilogue.
+fn block(instr: Instr) -> Vec<Record> {
+    let list = lowered(&sheet(vec![instr])).expect("it lowers");
+    list[3..list.len() - 3].to_vec()
+}
+
+/// The refusal of one instruction, which stands second.
+fn refusal(instr: Instr) -> u64 {
+    let (number, place) = lowered(&sheet(vec![Instr::Comment, instr])).expect_err("it is refused");
+    assert_eq!(place, 2);
+    number
+}
+
+fn binary(op: i64, dest: Variable, left: Operand, right: Operand) -> Instr {
+    Instr::Binary { op, dest, left, right }
+}
+
+fn frame(list: &[Record]) -> i64 {
+    assert_eq!(list[2][..5], [0, 3, 1, 4, 2]);
+    list[2][5]
+}
+
+/// The displacements of all variables, seen by zeroing each.
+fn displacements(variables: Vec<Type>) -> (Vec<i64>, i64) {
+    let mut sheet = Sheet { variables, ..Sheet::default() };
+    sheet.body = (0..sheet.variables.len()).map(|id| Instr::Zero(sheet.variable(id))).collect();
+    let list = lowered(&sheet).expect("it lowers");
+    let leas = list.iter().filter(|record| record[0] == 8 && record[4] == RBP_PLUS);
+    (leas.map(|record| record[5]).collect(), frame(&list))
+}
+
+// ---- the twelve cases
+
+const EXAMPLE: [i64; 24] =
+    [1, 1, 0, 3, -1, 1, 3, -1, 0, 3, -1, 9, 0, 0, 0, 0, 0, 0, 3, -1, 0, 0, 0, 0];
+
+#[test]
+fn case_1_listing() {
+    let cells = [vec![1, 0], EXAMPLE.to_vec()].concat();
+    let text = "ok 8\n14 0 1 5 0 0 0 0\n0 0 1 5 1 4 0 0\n0 3 1 4 2 16 0 0\n0 0 5 -4 1 7 4 0\n\
+                0 0 1 0 5 -4 4 0\n0 0 1 4 1 5 0 0\n14 1 1 5 0 0 0 0\n6 2 0 0 0 0 0 0\n";
+    assert_eq!(listing(&to_bytes(&cells)), text);
+}
+
+#[test]
+fn case_2_empty() {
+    let list = lowered(&Sheet::default()).expect("it lowers");
+    assert_eq!((list.len(), frame(&list)), (6, 0));
+}
+
+#[test]
+fn case_3_to_5_offsets() {
+    let (s, c, l) = (Type::scalar(SHORT), Type::scalar(CHAR), Type::scalar(LONG));
+    assert_eq!(displacements(vec![s, c, l]), (vec![-4, -5, -13], 16));
+    assert_eq!(displacements(vec![l, l, c]).1, 32);
+    assert_eq!(displacements(vec![s, Type::array(LONG, 0), s]).0, vec![-4, -4, -8]);
+}
+
+#[test]
+fn case_6_total() {
+    let with =
+        |last| Sheet { variables: vec![Type::array(LONG, 131_071), last], ..Sheet::default() };
+    let number = |last| answer(&to_bytes(&[0]), &to_bytes(&with(last).cells()), 1_000).result;
+    assert!(number(Type::scalar(LONG)).is_ok());
+    assert_eq!(number(Type::array(BYTE, 9)), Err(Refusal { number: 3, place: 9 }));
+}
+
+#[test]
+fn case_7_arguments() {
+    let call = |plain: usize, float: usize| Instr::Call {
+        dest: None,
+        symbol: 0,
+        args: [vec![read(LONG); plain], vec![read(FLOAT); float]].concat(),
+    };
+    assert_eq!(block(call(6, 8)).len(), 16);
+    assert_eq!(refusal(call(7, 8)), 8);
+    assert_eq!(refusal(call(6, 9)), 8);
+}
+
+#[test]
+fn case_8_logical_and() {
+    assert_eq!(refusal(binary(binary::AND, own(BOOL), read(BOOL), read(BOOL))), 7);
+    assert_eq!(refusal(binary(binary::OR, own(BOOL), read(BOOL), read(BOOL))), 7);
+}
+
+#[test]
+fn case_9_condition_codes() {
+    let code = |left| block(binary(binary::LT, own(BOOL), read(left), read(left)))[3][1];
+    assert_eq!((code(UNSIGNED_LONG), code(LONG)), (8, 4));
+}
+
+/// The value that a body leaves in variable 0.
+fn value(variable: Type, body: Vec<Instr>) -> u64 {
+    let sheet = Sheet { variables: vec![variable], body, ..Sheet::default() };
+    assert_eq!(faults(&sheet, None), []);
+    let bytes = vec![0; variable.size().expect("a width") as usize];
+    let mut run = run(&sheet, vec![bytes], 100);
+    run.variables[0].resize(8, 0);
+    u64::from_le_bytes(run.variables[0].clone().try_into().expect("eight bytes"))
+}
+
+#[test]
+fn case_10_widening() {
+    let dest = var(0, LONG);
+    assert_eq!(value(dest.ty, vec![Instr::Cast { dest, src: short(4_294_967_295) }]), u64::MAX);
+}
+
+#[test]
+fn case_11_shift_counts() {
+    let dest = var(0, SHORT);
+    let shifted = |count| value(dest.ty, vec![binary(binary::SHL, dest, short(1), short(count))]);
+    assert_eq!((shifted(32), shifted(33)), (1, 2));
+}
+
+#[test]
+fn case_12_one_epilogue() {
+    let give = || Instr::Return(Operand::Null);
+    let once = lowered(&sheet(vec![give()])).expect("it lowers");
+    assert_eq!(lowered(&sheet(vec![give(), Instr::Comment])), Ok(once.clone()));
+    let labelled = lowered(&sheet(vec![give(), Instr::Label(0)])).expect("it lowers");
+    assert_eq!(labelled.len(), once.len() + 4);
+}
+
+// ---- the order of refusals
+
+#[test]
+fn zero_asks_for_the_width_first() {
+    assert_eq!(refusal(Instr::Zero(beyond(CUSTOM))), 4);
+    assert_eq!(refusal(Instr::Zero(beyond(BYTE))), 5);
+}
+
+#[test]
+fn stores_look_up_first() {
+    let parameter = |param| lowered(&Sheet { parameters: vec![param], ..sheet(vec![]) });
+    assert_eq!(parameter(beyond(CUSTOM)), Err((5, 0)));
+    assert_eq!(parameter(var(0, CUSTOM)), Err((4, 0)));
+    assert_eq!(parameter(array(0, BYTE, 3)), Err((6, 0)));
+    for dest in [beyond(CUSTOM), array(13, BYTE, 3)] {
+        assert_eq!(refusal(Instr::Copy { dest, src: Operand::Float(9) }), 5);
+        assert_eq!(refusal(Instr::Call { dest: Some(dest), symbol: 0, args: vec![] }), 5);
+    }
+    assert_eq!(refusal(Instr::Copy { dest: array(0, BYTE, 3), src: Operand::Float(9) }), 6);
+}
+
+#[test]
+fn arithmetic_asks_width_operands_dest() {
+    let add = |dest, left, right| refusal(binary(binary::ADD, dest, left, right));
+    assert_eq!(add(beyond(CUSTOM), Operand::Float(9), Operand::Null), 4);
+    assert_eq!(add(array(13, BYTE, 3), Operand::Float(9), Operand::Null), 6);
+    assert_eq!(add(beyond(LONG), Operand::Float(9), Operand::DataAddress(0)), 5);
+    assert_eq!(add(beyond(LONG), Operand::Null, Operand::DataAddress(0)), 7);
+    assert_eq!(add(beyond(LONG), Operand::Null, Operand::Null), 5);
+}
+
+#[test]
+fn comparison_asks_left_first_and_dest_last() {
+    let less = |dest, left, right| refusal(binary(binary::LT, dest, left, right));
+    let odd = Operand::Var(array(0, BYTE, 3));
+    let address = Operand::Address(own(LONG));
+    assert_eq!(less(beyond(CUSTOM), Operand::Var(var(99, NULL)), address), 4);
+    assert_eq!(less(beyond(CUSTOM), Operand::Float(2), address), 5);
+    assert_eq!(less(beyond(CUSTOM), odd, address), 6);
+    assert_eq!(less(beyond(CUSTOM), Operand::Null, address), 7);
+    assert_eq!(less(beyond(CUSTOM), Operand::Null, Operand::Null), 5);
+    assert_eq!(less(var(0, CUSTOM), Operand::Null, Operand::Null), 4);
+    // on floats Lt loads right first, Gt loads left first
+    let left = Operand::Var(var(99, FLOAT));
+    assert_eq!(less(own(BOOL), left, address), 7);
+    assert_eq!(refusal(binary(binary::GT, own(BOOL), left, address)), 5);
+}
+
+#[test]
+fn arguments_ask_for_a_register_first() {
+    let call = |last| Instr::Call {
+        dest: None,
+        symbol: 0,
+        args: [vec![Operand::Null; 6], vec![last]].concat(),
+    };
+    assert_eq!(refusal(call(Operand::Address(own(LONG)))), 8);
+    assert_eq!(refusal(call(Operand::DataAddress(9))), 8);
+    assert_eq!(refusal(call(Operand::Float(9))), 5);
+}
+
+#[test]
+fn float_dest_and_conditions() {
+    for op in (binary::OR..=binary::SHR).chain([binary::REM]) {
+        assert_eq!(refusal(binary(op, beyond(FLOAT), Operand::Float(9), Operand::Null)), 7);
+    }
+    assert_eq!(refusal(Instr::JumpIfNot { cond: Operand::Address(own(LONG)), label: 1 }), 7);
+    assert_eq!(refusal(Instr::JumpIfNot { cond: Operand::Null, label: 1 }), 5);
+    assert_eq!(refusal(Instr::Label(1)), 5);
+    assert_eq!(refusal(Instr::Jump(i64::MAX)), 5);
+}
+
+// ---- what lowers all the same
+
+#[test]
+fn casts_take_no_source_width() {
+    for (id, count) in [(10, 2), (11, 3), (12, 0)] {
+        let src = Operand::Var(array(id, BYTE, count));
+        let list = block(Instr::Cast { dest: own(LONG), src });
+        assert_eq!((list[0][..2].to_vec(), list[0][6..].to_vec()), (vec![7, 1], vec![8, 4]));
+    }
+    let two = Instr::Cast { dest: own(FLOAT), src: Operand::Var(array(10, BYTE, 2)) };
+    assert_eq!(block(two)[0], [5, 2, 1, 16, 5, -49, 2, 0]);
+}
+
+#[test]
+fn returns_and_arguments_take_no_width() {
+    for code in [CUSTOM, NULL] {
+        let value = Operand::Var(var(0, code));
+        assert_eq!(lowered(&sheet(vec![Instr::Return(value)])).map(|list| list[3][6]), Ok(0));
+        let call = Instr::Call { dest: None, symbol: 0, args: vec![value] };
+        assert_eq!(block(call)[0], [0, 0, 1, 7, 5, -8, 0, 0]);
+    }
+    let value = Operand::Var(array(11, BYTE, 3));
+    assert_eq!(lowered(&sheet(vec![Instr::Return(value)])).map(|list| list[3][6]), Ok(8));
+    assert_eq!(block(Instr::Copy { dest: array(10, BYTE, 2), src: Operand::Null })[1][6], 2);
+}
+
+#[test]
+fn strings_as_operands() {
+    use binary::*;
+    let string = Operand::DataAddress(0);
+    for op in [ADD, SUB, BIT_OR, BIT_XOR, BIT_AND] {
+        assert_eq!(refusal(super::tests::binary(op, own(LONG), Operand::Null, string)), 7);
+    }
+    for op in [MUL, DIV, REM, SHL, SHR, EQ, NOT_EQ, LT, LE, GT, GE] {
+        let list = block(super::tests::binary(op, own(LONG), Operand::Null, string));
+        assert_eq!(list[1], [8, 0, 1, 1, 6, 0, 0, 0]);
+    }
+    for op in BIT_OR..=REM {
+        let list = block(super::tests::binary(op, own(LONG), string, Operand::Null));
+        assert_eq!(list[0], [8, 0, 1, 0, 6, 0, 0, 0]);
+    }
+}
+
+#[test]
+fn excess_parameters_are_not_looked_at() {
+    let six = vec![var(0, LONG); 6];
+    let kept = lowered(&Sheet { parameters: six.clone(), ..sheet(vec![]) });
+    for excess in [var(i64::MAX, LONG), var(0, CUSTOM), array(0, BYTE, 3)] {
+        let parameters = [six.clone(), vec![excess]].concat();
+        assert_eq!(lowered(&Sheet { parameters, ..sheet(vec![]) }), kept);
+    }
+}
+
+#[test]
+fn lists_that_no_processor_takes() {
+    let cast = |src| block(Instr::Cast { dest: own(FLOAT), src });
+    assert_eq!(cast(Operand::Null)[0], [5, 2, 1, 16, 2, 0, 8, 0]);
+    // a constant other than Null goes through RAX
+    assert_eq!(cast(long(7))[..2], [[0, 0, 1, 0, 2, 7, 8, 0], [5, 2, 1, 16, 1, 0, 8, 0]]);
+    let add = |left, right| block(binary(binary::ADD, own(FLOAT), left, right));
+    assert_eq!(add(long(7), long(8))[0], [0, 11, 1, 16, 2, 7, 8, 0]);
+    assert_eq!(add(long(7), long(8))[1], [0, 13, 1, 16, 2, 8, 8, 0]);
+    assert_eq!(add(Operand::DataAddress(0), long(8))[0], [8, 0, 1, 16, 6, 0, 0, 0]);
+    let less = block(binary(binary::LT, own(BOOL), read(FLOAT), long(7)));
+    assert_eq!(less[0], [0, 11, 1, 16, 2, 7, 8, 0]);
+}
+
+#[test]
+fn address_operand_always_panics() {
+    let address = Operand::Address(own(LONG));
+    assert_eq!(refusal(Instr::Return(address)), 7);
+    assert_eq!(refusal(Instr::Copy { dest: own(LONG), src: address }), 7);
+    assert_eq!(refusal(Instr::Cast { dest: own(FLOAT), src: address }), 7);
+    assert_eq!(refusal(Instr::Unary { op: unary::NEG, dest: own(LONG), src: address }), 7);
+}
+
+// ---- layout
+
+fn sheet_refusal(cells: &[i64]) -> Option<(u64, u64)> {
+    read_sheet(&to_bytes(cells)).err().map(|refusal| (refusal.number, refusal.place))
+}
+
+#[test]
+fn refusals_of_the_sheet() {
+    assert_eq!(sheet_refusal(&EXAMPLE), None);
+    assert_eq!(sheet_refusal(&[]), Some((2, 0)));
+    assert_eq!(sheet_refusal(&[257]), Some((3, 0)));
+    assert_eq!(sheet_refusal(&[0, 0, 0, 0, MAX_COUNT + 1]), Some((2, 4)));
+    assert_eq!(sheet_refusal(&[0, 0, 0, 11, MAX_COUNT + 1]), Some((3, 4)));
+    assert_eq!(sheet_refusal(&[0, 0, 0, 12, -2]), Some((2, 4)));
+    assert_eq!(sheet_refusal(&[EXAMPLE.to_vec(), vec![0]].concat()), Some((2, 24)));
+    for (at, value, number) in
+        [(9, 0, 2), (10, MAX_COUNT + 1, 3), (12, 1, 2), (17, -1, 2), (23, 1, 2)]
+    {
+        let mut cells = EXAMPLE;
+        cells[at] = value;
+        assert_eq!(sheet_refusal(&cells), Some((number, at as u64)));
+    }
+    let bytes = to_bytes(&EXAMPLE);
+    for length in 0..bytes.len() {
+        let cut = read_sheet(&bytes[..length]);
+        assert_eq!(cut, Err(Refusal { number: 2, place: length as u64 / 8 }));
+    }
+}
+
+#[test]
+fn refusals_of_the_tables() {
+    let refused = |cells: &[i64]| read_tables(&to_bytes(cells)).err().map(|refusal| refusal.place);
+    let floats = |count| [vec![256], vec![1; count]].concat();
+    assert_eq!(refused(&[]), Some(0));
+    assert_eq!(refused(&[257, 2]), Some(0));
+    assert_eq!(refused(&floats(256)), None);
+    assert_eq!(refused(&floats(258)), Some(257));
+    assert_eq!(refused(&[0, 1, 2, 2]), Some(2));
+    assert_eq!(read_tables(&[0; 9]), Err(Refusal { number: 1, place: 1 }));
+}
+
+#[test]
+fn listing_of_other_inputs() {
+    assert_eq!(listing(&[]), "refused 1 0\n");
+    assert_eq!(listing(&[1, 0, 0, 0, 0, 0, 0]), "refused 1 0\n");
+    assert_eq!(listing(&to_bytes(&[-1, 0])), "refused 1 0\n");
+    assert_eq!(listing(&to_bytes(&[2, 0])), "refused 1 0\n");
+    assert_eq!(listing(&to_bytes(&[0, 0])), "refused 1 0\n");
+    assert_eq!(listing(&to_bytes(&[1, 0])), "refused 2 0\n");
+    assert_eq!(listing(&[to_bytes(&[1, 0]), vec![0]].concat()), "refused 2 0\n");
+    assert_eq!(listing(&[0; 65_536]), "refused 1 0\n");
+    assert_eq!(listing(&[0; 65_537]), "too long\n");
+    let jumps = Sheet { labels: 1, body: vec![Instr::Jump(0); 600], ..Sheet::default() };
+    let cells = [vec![1, 0], jumps.cells()].concat();
+    assert!(listing(&to_bytes(&cells)).starts_with("ok 606\n"));
+}
+
+// ---- the plain test and the steps
+
+#[test]
+fn faults_of_labels() {
+    use Instr::{Comment, Jump, Label};
+    let of = |body| {
+        let sheet = Sheet { labels: 2, body, ..Sheet::default() };
+        faults(&sheet, lower(&Tables::default(), &sheet).err())
+    };
+    assert_eq!(of(vec![Label(0), Comment, Label(0)]), [1, 3]);
+    assert_eq!(of(vec![Jump(1), Label(0), Jump(0)]), [1]);
+    assert_eq!(of(vec![Comment, Label(2)]), [2]);
+    assert_eq!(of(vec![Label(0), Label(0), Jump(0)]), [1, 2]);
+}
+
+#[test]
+fn a_bool_may_hold_any_byte() {
+    let flag = var(0, BOOL);
+    let body = vec![
+        Instr::JumpIfNot { cond: Operand::Var(flag), label: 0 },
+        Instr::Unary { op: unary::NOT, dest: flag, src: Operand::Var(flag) },
+        Instr::Label(0),
+    ];
+    let sheet = Sheet { variables: vec![flag.ty], labels: 1, body, ..Sheet::default() };
+    let ends = |byte| run(&sheet, vec![vec![byte]], 10);
+    assert_eq!((ends(0).steps, ends(0).variables), (2, vec![vec![0]]));
+    assert_eq!((ends(0xfe).steps, ends(0xfe).variables), (3, vec![vec![0xff]]));
+}
+
+#[test]
+fn division_by_zero_is_a_step() {
+    let dest = var(0, UNSIGNED_LONG);
+    let body = vec![Instr::Comment, binary(binary::REM, dest, Operand::Null, Operand::Null)];
+    let sheet = Sheet { variables: vec![dest.ty], body, ..Sheet::default() };
+    let run = run(&sheet, vec![vec![3; 8]], 10);
+    assert_eq!((run.end, run.steps, run.variables), (End::Fault, 2, vec![vec![3; 8]]));
+    let empty = steps::run(&Sheet::default(), vec![], 0);
+    assert_eq!((empty.end, empty.steps), (End::FellOff, 0));
+}
+
+// ---- the generators
+
+#[test]
+fn what_is_written_is_read() {
+    let mut rng = Rng::new(7);
+    for _ in 0..500 {
+        for Draft { tables, sheet } in [any::draft(&mut rng), plain::draft(&mut rng)] {
+            assert_eq!(read_tables(&to_bytes(&tables.cells())), Ok(tables));
+            assert_eq!(read_sheet(&to_bytes(&sheet.cells())), Ok(sheet));
+        }
+    }
+}
+
+#[test]
+fn plain_drafts_are_plain() {
+    let mut rng = Rng::new(8);
+    for _ in 0..2_000 {
+        let Draft { tables, sheet } = plain::draft(&mut rng);
+        assert!(lower(&tables, &sheet).is_ok());
+        assert_eq!(faults(&sheet, None), [], "{sheet}");
+    }
+}
+
+#[test]
+fn the_compact_form_is_read_back() {
+    let cases = limits::cases();
+    assert_eq!(parse(&file(&cases)).as_ref(), Some(&cases));
+}
+
+#[test]
+fn the_list_has_every_refusal_and_no_repeats() {
+    let cases = list::cases();
+    assert!(cases.len() >= 2_000);
+    for number in 1..=9 {
+        let with = cases
+            .iter()
+            .filter(|case| case.result.as_ref().is_err_and(|refusal| refusal.number == number));
+        assert!(with.count() >= 10, "refusal {number}");
+    }
+    let mut inputs: Vec<_> =
+        cases.iter().map(|case| (&case.tables, &case.sheet, case.out_len)).collect();
+    inputs.sort();
+    inputs.dedup();
+    assert_eq!(inputs.len(), cases.len());
+}

@@ -1,0 +1,57 @@
+"""Reads the fixed list of the oracle's answers (vectors/README.md has its form)."""
+import pathlib
+
+MAGIC = b"KRCVEC01"
+
+
+class Reader:
+    def __init__(self, data):
+        self.data, self.at = data, 0
+
+    def byte(self):
+        self.at += 1
+        return self.data[self.at - 1]
+
+    def take(self, n):
+        self.at += n
+        return self.data[self.at - n:self.at]
+
+    def varint(self):
+        value, shift = 0, 0
+        while True:
+            b = self.byte()
+            value |= (b & 127) << shift
+            shift += 7
+            if b < 128:
+                return value
+
+    def cell(self):
+        z = self.varint()
+        return (z >> 1) ^ -(z & 1)
+
+    def slice(self):
+        """Cells, and a torn cell's bytes, as bytes."""
+        cells = [self.cell() for _ in range(self.varint())]
+        whole = b"".join((c % (1 << 64)).to_bytes(8, "little") for c in cells)
+        return whole + self.take(self.byte())
+
+
+class Case:
+    def __init__(self, r, index):
+        self.index = index
+        self.tables, self.sheet = r.slice(), r.slice()
+        self.out_len = r.varint()
+        self.number, self.place = r.varint(), r.varint()
+        count = self.place if self.number == 0 else 0
+        self.records = [[r.cell() for _ in range(8)] for _ in range(count)]
+        self.faults = [r.varint() for _ in range(r.varint())]
+
+
+def load(path):
+    r = Reader(pathlib.Path(path).read_bytes())
+    if r.take(8) != MAGIC:
+        raise SystemExit(f"{path}: not a list of answers")
+    cases = [Case(r, k) for k in range(r.varint())]
+    if r.at != len(r.data):
+        raise SystemExit(f"{path}: bytes are left over")
+    return cases
