@@ -3,7 +3,7 @@ use Prim.Native.Nat.{ℕ, zero, suc, _+_, _*_, _-_}
 use mathlib.Core.List.{List, [], _∷_}
 use mathlib.Core.Bool.{Bool, cond}
 use lib.ListN.{getD}
-use lib.Dec.{eqb}
+use lib.Dec.{eqb, ltb}
 use Rattle.cells.specs.Cells.{cells, cellAt}
 use Rattle.ir.specs.declared.«Type».{«Type» as IrType}
 use Rattle.ir.specs.declared.VarId.{VarId}
@@ -30,8 +30,9 @@ pub record Tables : Type 0 where
   pub floats : ℕ
   pub short : ℕ → Bool
 
+-- the first cell has the string count, each other a float
 unfoldable pub tablesOf : List ℕ → Tables
-tablesOf t = record { strings = cellAt t 0; floats = cells t - 1; short = λ k. eqb (cellAt t (k + 1)) 1 }
+tablesOf t = record { strings = cond (ltb 0 (cells t)) (cellAt t 0) 0; floats = cells t - 1; short = λ k. eqb (cellAt t (k + 1)) 1 }
 
 -- ---- the parts of a sheet, each by the number of its first cell
 

@@ -126,13 +126,7 @@ impl Operand {
                 let ty = v.ty;
                 ty.to_elf_size()
             }
-            Operand::Int(_, short, _) => {
-                if short {
-                    Size::U32
-                } else {
-                    Size::U64
-                }
-            }
+            Operand::Int(_, short, _) => { if short { Size::U32 } else { Size::U64 } }
             Operand::Float(_) => Size::U64,
             Operand::Bool(_) => Size::U8,
             Operand::Address(_) => Size::U64,

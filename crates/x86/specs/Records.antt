@@ -180,5 +180,5 @@ listBytes [] = []
 listBytes (i ∷ is) = recordBytes (recordOf i) ++ listBytes is
 
 -- the bytes with the record of an instruction from `at` on, if it has a form
-abbrev pub writeForm : ℕ → Instruction → ℕ → List ℕ → List ℕ
+unfoldable pub writeForm : ℕ → Instruction → ℕ → List ℕ → List ℕ
 writeForm form i at bs = cond (eqb (recordOf i .form) form) (write bs at (recordBytes (recordOf i))) bs

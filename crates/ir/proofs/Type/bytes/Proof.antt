@@ -25,14 +25,14 @@ mul-result-2 c = search needs
 
 returns-2 : tie.Need-returns-2
 unfolding bytes
-returns-2 c = 
+returns-2 c =
     let n : ℕ = c .before .before .before .before .args .self .count in
     let e : min n 1048576 ≡ n = omega (arith, c .if2 .taken) in
     (simp (← c .before .before .is-scalar .ensures, c .before .if1 .left, ← c .before .before .before .element-width .ensures .0, e), omega (arith, mul-le-mul-right n (c .before .before .before .element-width .ensures .1)))
 
 returns-3 : tie.Need-returns-3
 unfolding bytes
-returns-3 c = 
+returns-3 c =
     let n : ℕ = c .before .before .before .before .args .self .count in
     let e : min n 1048576 ≡ 1048576 = omega (arith, c .if2 .left) in
     (simp (← c .before .before .is-scalar .ensures, c .before .if1 .left, ← c .before .before .before .element-width .ensures .0, e), omega arith)

@@ -1,6 +1,6 @@
 use mathlib.Core.List.{[], _∷_}
 use mathlib.Core.Path.{refl}
-use Rattle.x86.specs.Records.{recordOf}
+use Rattle.x86.specs.Records.{recordOf, writeForm}
 use Rattle.x86.proofs.Forms.{other-form}
 use borrow.Author.Needs.{needs}
 use Rattle.x86.proofs.record.put_lea.Statement.{statement}
@@ -16,7 +16,7 @@ same-length : tie.Need-same-length
 same-length c = search needs
 
 returns : tie.Need-returns
-unfolding recordOf
+unfolding recordOf writeForm
 returns c = simp (c .before .before .put-cells .ensures, c .before .before .before .before .before .i .given .1)
 
 returns-2 : tie.Need-returns-2
