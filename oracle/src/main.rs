@@ -12,6 +12,7 @@ mod processor;
 mod program;
 mod read;
 mod rng;
+mod runs;
 mod sheet;
 mod show;
 mod steps;
@@ -26,7 +27,8 @@ const USAGE: &str = "usage: oracle answer < CELLS
        oracle cases SEED COUNT
        oracle list OUT
        oracle show FILE [N]
-       oracle processor SEED COUNT";
+       oracle processor SEED COUNT
+       oracle runs SEED COUNT";
 
 fn main() -> ExitCode {
     let args: Vec<String> = env::args().skip(1).collect();
@@ -57,6 +59,7 @@ fn command(words: &[&str]) -> Result<(), String> {
             let summary = processor::test(number(seed)?, number(count)? as usize)?;
             print(summary.as_bytes())
         }
+        ["runs", seed, count] => print(runs::lines(number(seed)?, number(count)? as usize).as_bytes()),
         _ => Err(USAGE.to_string()),
     }
 }

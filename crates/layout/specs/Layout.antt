@@ -6,7 +6,6 @@ use lib.ListN.{length}
 use lib.Dec.{ltb, leb, eqb}
 use Rattle.cells.specs.Cells.{cellAt, largest, readCell, readWithin, bindCell}
 use Rattle.cells.specs.declared.Cursor.{Cursor}
-use Rattle.cells.specs.declared.Cell.{Cell}
 use Rattle.layout.specs.declared.Limited.{Limited}
 use Rattle.layout.specs.declared.Checked.{Checked}
 use Rattle.ir.specs.Types.{noArray, offsetBehind}

@@ -1,4 +1,10 @@
-// The layout of tables and sheet: the first wrong cell in reading order, with refusal 1, 2 or 3.
+// The layout of tables and sheet: the first wrong cell in reading order, with refusal 1, 2 or 3. Every cell is read once, but for a variable's
+// type, which is read again for its bytes.
+pub mod instrs;
+pub mod parts;
+pub mod sheet;
+pub mod tables;
+
 use cells::Cursor;
 
 // What reading a cell with a limit finds: the cell and the cursor behind it, or the refusal's number and cell.

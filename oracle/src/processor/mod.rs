@@ -3,7 +3,7 @@
 
 mod asm;
 mod batch;
-mod trial;
+pub mod trial;
 
 use crate::rng::Rng;
 use crate::sheet::{Instr, binary};

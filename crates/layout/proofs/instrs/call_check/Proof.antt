@@ -1,0 +1,86 @@
+use Rattle.layout.specs.Layout.{callCheck}
+use borrow.Author.Needs.{needs}
+use Rattle.layout.proofs.instrs.call_check.Statement.{statement}
+use Rattle.layout.proofs.instrs.call_check.Tie as tie
+
+within-requires : tie.Need-within-requires
+within-requires c κs = search needs
+
+enum-known-c1 : tie.Need-enum-known-c1
+enum-known-c1 c = search needs
+
+enum-known-k : tie.Need-enum-known-k
+enum-known-k c = search needs
+
+returns : tie.Need-returns
+unfolding callCheck
+returns c = simp (← c .before .before .before .within .ensures, c .before .k .given .1)
+
+limited-requires : tie.Need-limited-requires
+limited-requires c κs = search needs
+
+enum-known-count : tie.Need-enum-known-count
+enum-known-count c = search needs
+
+zeros-check-requires : tie.Need-zeros-check-requires
+zeros-check-requires c κs = search needs
+
+enum-known-c3 : tie.Need-enum-known-c3
+enum-known-c3 c = search needs
+
+operands-check-requires : tie.Need-operands-check-requires
+operands-check-requires c κs = search needs
+
+enum-known-n : tie.Need-enum-known-n
+enum-known-n c = search needs
+
+enum-known-n-2 : tie.Need-enum-known-n-2
+enum-known-n-2 c = search needs
+
+returns-2 : tie.Need-returns-2
+unfolding callCheck
+returns-2 c =
+    let p = c .before .before in
+    let q = p .before .before in
+    let r = q .before .before in
+    let t = r .before .before in
+    let u = t .before .before in
+    let v = u .before .before in
+    simp (← v .within .ensures, u .c1 .given .1, ← t .limited .ensures, r .count .given .1, ← q .zeros-check .ensures, p .c3 .given .1, c .operands-check .ensures)
+
+returns-3 : tie.Need-returns-3
+unfolding callCheck
+returns-3 c =
+    let p = c .before .before .before in
+    let q = p .before .before in
+    let r = q .before .before in
+    let t = r .before .before in
+    let u = t .before .before in
+    simp (← u .within .ensures, t .c1 .given .1, ← r .limited .ensures, q .count .given .1, ← p .zeros-check .ensures, c .before .n .given .1)
+
+returns-4 : tie.Need-returns-4
+unfolding callCheck
+returns-4 c =
+    let p = c .before .before .before in
+    let q = p .before .before in
+    let r = q .before .before in
+    simp (← r .within .ensures, q .c1 .given .1, ← p .limited .ensures, c .before .n2 .given .1)
+
+pub call-check-spec : {M : Type 1} → statement M
+call-check-spec =
+    tie.close
+    (tie.spec
+    within-requires
+    enum-known-c1
+    enum-known-k
+    returns
+    limited-requires
+    enum-known-count
+    zeros-check-requires
+    enum-known-c3
+    operands-check-requires
+    enum-known-n
+    enum-known-n-2
+    returns-2
+    returns-3
+    returns-4)

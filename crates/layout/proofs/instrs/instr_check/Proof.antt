@@ -1,0 +1,113 @@
+use Rattle.layout.specs.Layout.{instrCheck}
+use borrow.Author.Needs.{needs}
+use Rattle.layout.proofs.instrs.instr_check.Statement.{statement}
+use Rattle.layout.proofs.instrs.instr_check.Tie as tie
+
+within-requires : tie.Need-within-requires
+within-requires c κs = search needs
+
+enum-known-kind : tie.Need-enum-known-kind
+enum-known-kind c = search needs
+
+operation-most-requires : tie.Need-operation-most-requires
+operation-most-requires c κs = search needs
+
+within-requires-2 : tie.Need-within-requires-2
+within-requires-2 c κs = search needs
+
+enum-known-operation : tie.Need-enum-known-operation
+enum-known-operation c = search needs
+
+has-dest-requires : tie.Need-has-dest-requires
+has-dest-requires c κs = search needs
+
+dest-check-requires : tie.Need-dest-check-requires
+dest-check-requires c κs = search needs
+
+enum-known-c3 : tie.Need-enum-known-c3
+enum-known-c3 c = search needs
+
+body-check-requires : tie.Need-body-check-requires
+body-check-requires c κs = search needs
+
+enum-known-n : tie.Need-enum-known-n
+enum-known-n c = search needs
+
+enum-known-k : tie.Need-enum-known-k
+enum-known-k c = search needs
+
+enum-known-k-2 : tie.Need-enum-known-k-2
+enum-known-k-2 c = search needs
+
+returns : tie.Need-returns
+unfolding instrCheck
+returns c =
+    let p = c .before .before in
+    let q = p .before .before in
+    let r = q .before .before .before in
+    let t = r .before .before in
+    let u = t .before .before .before in
+    let v = u .before .before in
+    simp (
+      ← v .within .ensures,
+      u .kind .given .1,
+      ← t .before .operation-most .ensures,
+      ← t .within2 .ensures,
+      r .operation .given .1,
+      ← q .before .has-dest .ensures,
+      ← q .dest-check .ensures,
+      p .c3 .given .1,
+      c .body-check .ensures,
+    )
+
+returns-2 : tie.Need-returns-2
+unfolding instrCheck
+returns-2 c =
+    let p = c .before .before .before in
+    let q = p .before .before .before in
+    let r = q .before .before in
+    let t = r .before .before .before in
+    let u = t .before .before in
+    simp (
+      ← u .within .ensures,
+      t .kind .given .1,
+      ← r .before .operation-most .ensures,
+      ← r .within2 .ensures,
+      q .operation .given .1,
+      ← p .before .has-dest .ensures,
+      ← p .dest-check .ensures,
+      c .before .n .given .1,
+    )
+
+returns-3 : tie.Need-returns-3
+unfolding instrCheck
+returns-3 c =
+    let p = c .before .before .before in
+    let q = p .before .before .before in
+    let r = q .before .before in
+    simp (← r .within .ensures, q .kind .given .1, ← p .before .operation-most .ensures, ← p .within2 .ensures, c .before .k .given .1)
+
+returns-4 : tie.Need-returns-4
+unfolding instrCheck
+returns-4 c = simp (← c .before .before .before .within .ensures, c .before .k2 .given .1)
+
+pub instr-check-spec : {M : Type 1} → statement M
+instr-check-spec =
+    tie.close
+    (tie.spec
+    within-requires
+    enum-known-kind
+    operation-most-requires
+    within-requires-2
+    enum-known-operation
+    has-dest-requires
+    dest-check-requires
+    enum-known-c3
+    body-check-requires
+    enum-known-n
+    enum-known-k
+    enum-known-k-2
+    returns
+    returns-2
+    returns-3
+    returns-4)

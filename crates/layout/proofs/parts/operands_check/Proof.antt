@@ -1,0 +1,63 @@
+use borrow.Author.Needs.{needs}
+use native.Mathlib.Omega.{arith}
+use mathlib.Core.Path.{refl}
+use Rattle.layout.specs.Layout.{operandsCheck}
+use Rattle.layout.proofs.Turns.{Left, goes-on, stops, ends}
+use Rattle.layout.proofs.parts.operands_check.Statement.{statement}
+use Rattle.layout.proofs.parts.operands_check.Tie as tie
+
+abbrev Inv-loop : tie.InvT-loop
+Inv-loop s n left₀ here₀ left here = Left (operandsCheck s) (operandsCheck s n here₀) left here
+
+abbrev μ-loop : tie.MeasureT-loop
+μ-loop s n left₀ here₀ left here = left
+
+loop-holds : tie.Need-loop-holds Inv-loop μ-loop
+loop-holds c = record { is = refl }
+
+operand-check-requires : tie.Need-operand-check-requires Inv-loop μ-loop
+operand-check-requires c κs = search needs
+
+enum-known-next : tie.Need-enum-known-next Inv-loop μ-loop
+enum-known-next c = search needs
+
+enum-known-number : tie.Need-enum-known-number Inv-loop μ-loop
+enum-known-number c = search needs
+
+returns : tie.Need-returns Inv-loop μ-loop
+unfolding operandsCheck
+returns c =
+    let p = c .before .before .before in
+    stops _ _ (p .before .before .loop .inv) (p .before .loop-test .taken) (λ m. simp (← p .operand-check .ensures, c .before .number .given .1))
+
+sub-left : tie.Need-sub-left Inv-loop μ-loop
+sub-left c = omega arith
+
+loop-less : tie.Need-loop-less Inv-loop μ-loop
+loop-less c = omega arith
+
+loop-again : tie.Need-loop-again Inv-loop μ-loop
+unfolding operandsCheck
+loop-again c =
+    let p = c .before .before .before in
+    goes-on _ _ (p .before .before .loop .inv) _ (p .before .loop-test .taken) (λ m. simp (← p .operand-check .ensures, c .before .next .given .1))
+
+returns-2 : tie.Need-returns-2 Inv-loop μ-loop
+unfolding operandsCheck
+returns-2 c = ends _ _ (c .before .loop .inv) (c .loop-test .left) refl
+
+pub operands-check-spec : {M : Type 1} → statement M
+operands-check-spec =
+    tie.close
+    (tie.spec
+    Inv-loop
+    μ-loop
+    loop-holds
+    operand-check-requires
+    enum-known-next
+    enum-known-number
+    returns
+    sub-left
+    loop-less
+    loop-again
+    returns-2)

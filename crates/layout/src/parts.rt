@@ -1,0 +1,194 @@
+// Cells, types, variables and operands of a sheet.
+use crate::Checked;
+use crate::Limited;
+use cells::Cell;
+use cells::Cursor;
+use ir::Type;
+ghost use mathlib.Core.Path.{_≡_};
+ghost use Rattle.layout.specs.Layout.{endCheck, limited, countCheck, zerosCheck, fieldsCheck, typeCheck, returnCheck, varCheck, firstField, flagField, operandCheck, operandsCheck};
+
+// The largest number that is not negative.
+pub const LARGEST: u64 = 0x7fff_ffff_ffff_ffff;
+
+// The largest count of an array, and the largest total of the variables' sizes.
+pub const MOST_BYTES: u64 = 1048576;
+
+// Nothing is left behind the cursor, not even a torn cell.
+pub fn end_check(number: u64, s: &[u8], c: Cursor) -> Checked
+    ensures { λ r. ⌜ r ≡ endCheck number (now (s .entry)) c ⌝ }
+{
+    let at = c.at;
+    if at < s.len() / 8 {
+        return Checked::Refused(number, at);
+    }
+    if at == s.len() / 8 {
+        if 0 < s.len() % 8 {
+            return Checked::Refused(number, at);
+        }
+    }
+    Checked::Behind(c)
+}
+
+// A count: negative is off the layout, above its limit oversize.
+pub fn limited(s: &[u8], c: Cursor, most: u64) -> Limited
+    ensures { λ r. ⌜ r ≡ limited (now (s .entry)) c most ⌝ }
+{
+    match c.within(s, 0, LARGEST) {
+        Cell::Word(v, next) => {
+            if most < v {
+                return Limited::Refused(3, c.at);
+            }
+            Limited::Word(v, next)
+        }
+        Cell::Wrong(k) => Limited::Refused(2, k),
+    }
+}
+
+// The count of a type: -1 for no array, or from 0 to its limit.
+pub fn count_check(s: &[u8], c: Cursor) -> Checked
+    ensures { λ r. ⌜ r ≡ countCheck (now (s .entry)) c ⌝ }
+{
+    match c.cell(s) {
+        Cell::Word(count, next) => {
+            if count == Type::NO_ARRAY {
+                return Checked::Behind(next);
+            }
+            if LARGEST < count {
+                return Checked::Refused(2, c.at);
+            }
+            if MOST_BYTES < count {
+                return Checked::Refused(3, c.at);
+            }
+            Checked::Behind(next)
+        }
+        Cell::Wrong(k) => Checked::Refused(2, k),
+    }
+}
+
+// `n` unused cells.
+pub fn zeros_check(s: &[u8], n: u64, c: Cursor) -> Checked
+    ensures { λ r. ⌜ r ≡ zerosCheck (now (s .entry)) n c ⌝ }
+{
+    let mut left = n;
+    let mut here = c;
+    while 0 < left {
+        match here.within(s, 0, 0) {
+            Cell::Word(_, next) => {
+                here = next;
+            }
+            Cell::Wrong(k) => {
+                return Checked::Refused(2, k);
+            }
+        }
+        left -= 1;
+    }
+    Checked::Behind(here)
+}
+
+// Three cells, each from 0 to its own bound.
+fn fields_check(s: &[u8], c: Cursor, x: u64, y: u64, z: u64) -> Checked
+    ensures { λ r. ⌜ r ≡ fieldsCheck (now (s .entry)) c x y z ⌝ }
+{
+    match c.within(s, 0, x) {
+        Cell::Word(_, c1) => match c1.within(s, 0, y) {
+            Cell::Word(_, c2) => match c2.within(s, 0, z) {
+                Cell::Word(_, c3) => Checked::Behind(c3),
+                Cell::Wrong(k) => Checked::Refused(2, k),
+            },
+            Cell::Wrong(k) => Checked::Refused(2, k),
+        },
+        Cell::Wrong(k) => Checked::Refused(2, k),
+    }
+}
+
+// A type is a code and a count.
+pub fn type_check(s: &[u8], c: Cursor) -> Checked
+    ensures { λ r. ⌜ r ≡ typeCheck (now (s .entry)) c ⌝ }
+{
+    match c.within(s, 1, 12) {
+        Cell::Word(_, next) => count_check(s, next),
+        Cell::Wrong(k) => Checked::Refused(2, k),
+    }
+}
+
+// A return type may be 0, -1 for none.
+pub fn return_check(s: &[u8], c: Cursor) -> Checked
+    ensures { λ r. ⌜ r ≡ returnCheck (now (s .entry)) c ⌝ }
+{
+    match c.within(s, 0, 12) {
+        Cell::Word(code, next) => {
+            if code == 0 {
+                return match next.within(s, Type::NO_ARRAY, Type::NO_ARRAY) {
+                    Cell::Word(_, c2) => Checked::Behind(c2),
+                    Cell::Wrong(k) => Checked::Refused(2, k),
+                };
+            }
+            count_check(s, next)
+        }
+        Cell::Wrong(k) => Checked::Refused(2, k),
+    }
+}
+
+// A variable is an id and its own type.
+pub fn var_check(s: &[u8], c: Cursor) -> Checked
+    ensures { λ r. ⌜ r ≡ varCheck (now (s .entry)) c ⌝ }
+{
+    match c.within(s, 0, LARGEST) {
+        Cell::Word(_, next) => type_check(s, next),
+        Cell::Wrong(k) => Checked::Refused(2, k),
+    }
+}
+
+// The bounds of an operand's fields, by its position in Krc's `Operand`.
+fn first_field(kind: u64) -> u64
+    ensures { λ r. ⌜ r ≡ firstField kind ⌝ }
+{
+    match kind {
+        1 => 0xffff_ffff_ffff_ffff,
+        3 => 1,
+        6 => 0,
+        _ => LARGEST,
+    }
+}
+
+fn flag_field(kind: u64) -> u64
+    ensures { λ r. ⌜ r ≡ flagField kind ⌝ }
+{
+    if kind == 1 { 1 } else { 0 }
+}
+
+// An operand is four cells: 0 Var and 4 Address hold a variable.
+pub fn operand_check(s: &[u8], c: Cursor) -> Checked
+    ensures { λ r. ⌜ r ≡ operandCheck (now (s .entry)) c ⌝ }
+{
+    match c.within(s, 0, 6) {
+        Cell::Word(kind, next) => match kind {
+            0 => var_check(s, next),
+            4 => var_check(s, next),
+            _ => {
+                let flag = flag_field(kind);
+                fields_check(s, next, first_field(kind), flag, flag)
+            }
+        },
+        Cell::Wrong(k) => Checked::Refused(2, k),
+    }
+}
+
+pub fn operands_check(s: &[u8], n: u64, c: Cursor) -> Checked
+    ensures { λ r. ⌜ r ≡ operandsCheck (now (s .entry)) n c ⌝ }
+{
+    let mut left = n;
+    let mut here = c;
+    while 0 < left {
+        match operand_check(s, here) {
+            Checked::Behind(next) => {
+                here = next;
+            }
+            Checked::Refused(number, k) => {
+                return Checked::Refused(number, k);
+            }
+        }
+        left -= 1;
+    }
+    Checked::Behind(here)
+}

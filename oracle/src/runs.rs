@@ -1,0 +1,72 @@
+//! Runs of small plain functions, as text: the entry state and what F's steps lead to.
+
+use std::fmt::Write;
+
+use crate::processor::trial::{Entry, Trial, draw, frame, slots};
+use crate::rng::Rng;
+use crate::steps::{End, Run};
+
+/// Larger sheets and longer runs are left out: the checker evaluates each run by itself.
+const MAX_CELLS: usize = 170;
+const MAX_STEPS: u64 = 60;
+const MANY_STEPS: u64 = 16;
+const MAX_FRAME: usize = 64;
+
+/// A line a run, `count` of them.
+pub fn lines(seed: u64, count: usize) -> String {
+    let mut rng = Rng::new(seed);
+    let mut text = String::new();
+    let mut done = 0;
+    while done < count {
+        let trial = draw(&mut rng);
+        if trial.sheet.cells().len() > MAX_CELLS || frame(&trial.sheet) > MAX_FRAME {
+            continue;
+        }
+        if let Some(entry) = trial.entries.iter().find(|entry| wanted(done, &entry.run)) {
+            line(&trial, entry, &mut text);
+            done += 1;
+        }
+    }
+    text
+}
+
+/// Of eight runs one ends by a fault, one with no instruction left, one after many steps.
+fn wanted(k: usize, run: &Run) -> bool {
+    run.steps <= MAX_STEPS
+        && match k % 8 {
+            0 => run.end == End::Fault,
+            1 => run.end == End::FellOff,
+            2 => run.steps > MANY_STEPS,
+            _ => true,
+        }
+}
+
+/// Counted lists of numbers: the sheet's cells, the general registers but RSP (given as 0), the frame's bytes; then how the run ends (0 with no
+/// instruction left, 1 by a Return, 2 by a fault), its steps, width and value; then the variables' bytes at the end, counted.
+fn line(trial: &Trial, entry: &Entry, text: &mut String) {
+    let below = entry.below;
+    let bytes = &entry.region[below - frame(&trial.sheet)..below];
+    let (end, width, value) = match entry.run.end {
+        End::FellOff => (0, 0, 0),
+        End::Value { value, width } => (1, width, value),
+        End::Fault => (2, 0, 0),
+        End::Unended => unreachable!("a trial's runs end"),
+    };
+    debug_assert_eq!(slots(&trial.sheet, below).len(), entry.run.variables.len());
+    counted(text, trial.sheet.cells().iter());
+    counted(text, entry.registers[..16].iter().enumerate().map(|(k, r)| if k == 4 { 0 } else { *r }));
+    counted(text, bytes.iter());
+    write!(text, "{end} {} {width} {value} ", entry.run.steps).expect("a string takes text");
+    counted(text, entry.run.variables.concat().iter());
+    text.truncate(text.trim_end().len());
+    text.push('\n');
+}
+
+fn counted<T: std::fmt::Display>(text: &mut String, numbers: impl Iterator<Item = T>) {
+    let words: Vec<String> = numbers.map(|number| number.to_string()).collect();
+    write!(text, "{} ", words.len()).expect("a string takes text");
+    for word in words {
+        text.push_str(&word);
+        text.push(' ');
+    }
+}

@@ -1,0 +1,75 @@
+"""Equations that the definitions answer as the oracle does, on cases of the fixed list."""
+import vectors
+from scratch import ROOT, numbers, unfolding
+
+HEADER = """use Prim.Native.Nat.{ℕ, suc}
+use mathlib.Core.Path.{_≡_, refl}
+use mathlib.Core.Bool.{Bool, true, false}
+use mathlib.Core.List.{List, [], _∷_, _++_, map}
+use lib.ListN.{length}
+use Rattle.x86.specs.declared.enums.Instruction.{Instruction}
+use Rattle.x86.specs.Records.{Record}
+use Rattle.codegen.specs.Generation.{Outcome, accepted, refused}
+%s
+
+abbrev cellsOf : Record → List ℕ
+cellsOf r = r .form ∷ r .operation ∷ r .dstTag ∷ r .dst ∷ r .srcTag ∷ r .src ∷ r .size ∷ r .srcSize ∷ []
+
+abbrev allCells : List Instruction → List ℕ
+allCells [] = []
+allCells (i ∷ is) = cellsOf (recordOf i) ++ allCells is
+
+-- 0, the record count and the cells, or number and place
+abbrev shown : Outcome (List Instruction) → List ℕ
+shown (accepted is) = 0 ∷ length is ∷ allCells is
+shown (refused n p) = n ∷ p ∷ []
+
+"""
+
+
+def equations(case, line):
+    """What the lowering answers, and which numbers the plain test finds at fault."""
+    args = f"({numbers(case.tables)}) ({numbers(case.sheet)})"
+    cells = [c for r in case.records for c in r]
+    yield f"answer{case.index} : _≡_ {{A = List ℕ}} (shown (lowered {args} {case.out_len})) ({numbers([case.number, case.place] + cells)})"
+    yield line
+    yield f"answer{case.index} = refl\n"
+    asked = asked_faults(case)
+    flags = " ∷ ".join("true" if k in case.faults else "false" for k in asked) + " ∷ []"
+    yield f"faults{case.index} : _≡_ {{A = List Bool}} (map (isFault {args}) ({numbers(asked)})) ({flags})"
+    yield line
+    yield f"faults{case.index} = refl\n"
+
+
+def asked_faults(case):
+    """Every number where the list has all faults; of a sheet that is refused 4 to 8 only those in the list."""
+    if case.number in (4, 5, 6, 7, 8):
+        return case.faults[:4]
+    if case.number in (1, 2, 3):
+        return [0, 1]
+    instructions = int.from_bytes(case.sheet[40:48], "little")
+    return list(range(min(instructions, 6) + 2))
+
+
+def choose(cases, count, most):
+    """The first and last of each refusal, then an even spread."""
+    small = [c for c in cases if len(c.tables) + len(c.sheet) <= most]
+    chosen = {}
+    for number in range(10):
+        of = [c for c in small if c.number == number]
+        for c in of[:12] + of[-12:]:
+            chosen[c.index] = c
+    step = max(1, len(small) // max(1, count - len(chosen)))
+    for c in small[::step]:
+        if len(chosen) < count:
+            chosen[c.index] = c
+    return [chosen[k] for k in sorted(chosen)]
+
+
+def modules(count, most, jobs):
+    """The equations of `count` cases of at most `most` bytes of tables and sheet, as `jobs` modules, and what they are about."""
+    uses, line = unfolding(["steps"])
+    cases = choose(vectors.load(ROOT / "vectors/answers.bin"), count, most)
+    texts = {f"answers{k}": HEADER % uses + "\n".join(l for c in cases[k::jobs] for l in equations(c, line)) for k in range(jobs)}
+    counts = ", ".join(str(sum(1 for c in cases if c.number == n)) for n in range(10))
+    return texts, f"{len(cases)} answers are the oracle's (accepted, refused 1 to 9: {counts})"
