@@ -1,3 +1,4 @@
 pub mod Rest
 pub mod Loads
 pub mod Emitted
+pub mod Parts

@@ -1,0 +1,4 @@
+pub mod Offsets
+pub mod Rest
+pub mod Stores
+pub mod Prologue

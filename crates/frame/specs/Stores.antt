@@ -1,0 +1,34 @@
+-- The parts of the prologue, as `funcPrologue` and `storeParams` make them.
+use Prim.Native.Nat.{ℕ}
+use mathlib.Core.Bool.{Bool, cond, Bool·beq}
+use mathlib.Core.List.{List, [], _∷_}
+use lib.ListN.{length, getD}
+use lib.Dec.{ltb}
+use Rattle.ir.specs.declared.VarId.{VarId}
+use Rattle.ir.specs.Types.{Result, ok, _>>=_, isFloat}
+use Rattle.x86.specs.declared.enums.Size.{Size}
+use Rattle.x86.specs.declared.enums.BinOp.{BinOp}
+use Rattle.x86.specs.declared.enums.StackOp.{StackOp}
+use Rattle.x86.specs.declared.enums.Operand.{Operand}
+use Rattle.x86.specs.declared.enums.Instruction.{Instruction}
+use Rattle.x86.specs.Registers.{RAX, RSP, RBP}
+use Rattle.codegen.specs.Context.{Context}
+use Rattle.codegen.specs.Utils.{varSize, convertVar}
+use Rattle.codegen.specs.Instructions.{move}
+use Rattle.codegen.specs.Frame.{registersOf, storeOf}
+
+-- `push rbp ; mov rbp, rsp ; sub rsp, bytes`
+abbrev pub entering : ℕ → List Instruction
+entering bytes =
+    Instruction.Stack StackOp.Push (Operand.Reg RBP) Size.NoSize ∷ move (Operand.Reg RBP) (Operand.Reg RSP) Size.NoSize
+    ∷ Instruction.Binary BinOp.Sub (Operand.Reg RSP) (Operand.Imm bytes) Size.NoSize ∷ []
+
+-- from the register of rank k into the parameter's slot
+unfoldable pub storeOne : Context → Bool → ℕ → VarId → Result (List Instruction)
+storeOne ctx float k p =
+    convertVar ctx p >>= λ var. varSize p >>= λ size. ok (Instruction.Binary (storeOf float) var (Operand.Reg (getD (registersOf float) k RAX)) size ∷ [])
+
+-- no record for a parameter of the other kind, or where no register is left
+unfoldable pub storeParam : Context → Bool → ℕ → VarId → Result (List Instruction)
+storeParam ctx float k p =
+    cond (Bool·beq (isFloat (p .ty)) float) (cond (ltb k (length (registersOf float))) (storeOne ctx float k p) (ok [])) (ok [])

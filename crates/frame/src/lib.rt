@@ -1,0 +1,262 @@
+// Krc's codegen/generation.rs, the frame: `var_offsets` and `func_prologue`.
+use cells::cell_at;
+use ir::VarId;
+use ir::read::type_at;
+use ir::read::var_at;
+use ir::types::Number;
+use utils::Made;
+use utils::Placed;
+use utils::Sized;
+use utils::convert_var;
+use utils::room;
+use utils::var_size;
+use x86::enums::BinOp;
+use x86::enums::Instruction;
+use x86::enums::Operand;
+use x86::enums::Size;
+use x86::enums::StackOp;
+use x86::record::put_binary;
+use x86::record::put_stack;
+use x86::register::Register;
+ghost use mathlib.Core.Path.{_≡_};
+ghost use mathlib.Core.Bool.{true, cond};
+ghost use Prim.Native.Nat.{_+_, _*_, _≤_};
+ghost use lib.ListN.{length, getD, take};
+ghost use Rattle.cells.specs.Cells.{cells, cellAt};
+ghost use Rattle.ir.specs.Types.{ok, refused, lastOffset};
+ghost use Rattle.ir.specs.Answers.{numberSays};
+ghost use Rattle.ir.specs.Function.{typesAt, varsAt, paramsFrom, bodyFrom};
+ghost use Rattle.x86.specs.Registers.{RAX};
+ghost use Rattle.codegen.specs.Frame.{offsetsFrom, haveWidths, registersOf, storeOf, storeParams, funcPrologue};
+ghost use Rattle.utils.specs.Answers.{lent, madeSays, counted, emitted, placed};
+ghost use Rattle.utils.specs.Parts.{PutAll};
+ghost use Rattle.frame.specs.Stores.{entering, storeOne, storeParam};
+
+// The offset of each of the `n` variables, and the last offset; refusal 4 where a variable has no width.
+pub fn var_offsets(sheet: &[u8], n: u64, offsets: &mut [u64]) -> Number
+    requires { ⌜ 6 + 2 * n ≤ cells (now sheet) ⌝ }
+    requires { ⌜ n ≤ length (now offsets) ⌝ }
+    requires { ⌜ lastOffset 0 (typesAt (now sheet) n 6) ≤ 1048576 ⌝ }
+    ensures { λ r. ⌜ numberSays r ≡ cond (haveWidths (typesAt (now (sheet .entry)) n 6)) (ok (lastOffset 0 (typesAt (now (sheet .entry)) n 6))) (refused 4) ⌝ }
+    ensures { λ r. ⌜ length (now (offsets .exit)) ≡ length (now (offsets .entry)) ⌝ }
+    ensures { λ r. ⌜ (haveWidths (typesAt (now (sheet .entry)) n 6) ≡ true → take n (now (offsets .exit)) ≡ offsetsFrom 0 (typesAt (now (sheet .entry)) n 6)) ⌝ }
+{
+    let mut k: usize = 0;
+    let mut end: u64 = 0;
+    while (k as u64) < n {
+        let ty = type_at(sheet, 6 + 2 * k);
+        match ty.size() {
+            Number::Is(bytes) => {
+                end += bytes;
+                offsets[k] = end;
+            }
+            Number::Refused(number) => {
+                return Number::Refused(number);
+            }
+        }
+        k += 1;
+    }
+    Number::Is(end)
+}
+
+// `PARAM_REGS` and `PARAM_FREGS`: the register of the parameter of rank `k` among those that are floats, or among those that are not.
+fn param_register(float: bool, k: u64) -> Register
+    ensures { λ r. ⌜ r ≡ getD (registersOf float) k RAX ⌝ }
+{
+    if float {
+        match k {
+            0 => Register::XMM0,
+            1 => Register::XMM1,
+            2 => Register::XMM2,
+            3 => Register::XMM3,
+            4 => Register::XMM4,
+            5 => Register::XMM5,
+            6 => Register::XMM6,
+            7 => Register::XMM7,
+            _ => Register::RAX,
+        }
+    } else {
+        match k {
+            0 => Register::RDI,
+            1 => Register::RSI,
+            2 => Register::RDX,
+            3 => Register::RCX,
+            4 => Register::R8,
+            5 => Register::R9,
+            _ => Register::RAX,
+        }
+    }
+}
+
+// How many registers there are for them.
+fn registers(float: bool) -> u64
+    ensures { λ r. ⌜ r ≡ length (registersOf float) ⌝ }
+{
+    if float { 8 } else { 6 }
+}
+
+fn store_op(float: bool) -> BinOp
+    ensures { λ r. ⌜ r ≡ storeOf float ⌝ }
+{
+    if float { BinOp::StoreF } else { BinOp::Mov }
+}
+
+// A parameter, from the register of its rank into its slot.
+fn store_one(
+    tables: &[u8],
+    offsets: &[u64],
+    float: bool,
+    k: u64,
+    p: VarId,
+    out: &mut [u8],
+    at: usize,
+) -> Made
+    ensures { λ r. ⌜ madeSays r ≡ counted (storeOne (lent (now (tables .entry)) (now (offsets .entry))) float k p) ⌝ }
+    ensures { λ r. ⌜ now (out .exit) ≡ placed at (storeOne (lent (now (tables .entry)) (now (offsets .entry))) float k p) (now (out .entry)) ⌝ }
+{
+    let dst = match convert_var(tables, offsets, p) {
+        Placed::Is(dst) => dst,
+        Placed::Refused(n) => return Made::Refused(n),
+    };
+    let size = match var_size(p) {
+        Sized::Is(size) => size,
+        Sized::Refused(n) => return Made::Refused(n),
+    };
+    if 1 <= room(out.len(), at) {
+        put_binary(
+            out,
+            at,
+            Instruction::Binary {
+                op: store_op(float),
+                dst,
+                src: Operand::Reg(param_register(float, k)),
+                size,
+            },
+        );
+    }
+    Made::Records(1)
+}
+
+// No record for a parameter of the other kind, or where no register is left.
+fn store_param(
+    tables: &[u8],
+    offsets: &[u64],
+    float: bool,
+    k: u64,
+    p: VarId,
+    out: &mut [u8],
+    at: usize,
+) -> Made
+    ensures { λ r. ⌜ madeSays r ≡ counted (storeParam (lent (now (tables .entry)) (now (offsets .entry))) float k p) ⌝ }
+    ensures { λ r. ⌜ now (out .exit) ≡ placed at (storeParam (lent (now (tables .entry)) (now (offsets .entry))) float k p) (now (out .entry)) ⌝ }
+{
+    let ty = p.ty;
+    if ty.is_float() != float {
+        return Made::Records(0);
+    }
+    if registers(float) <= k {
+        return Made::Records(0);
+    }
+    store_one(tables, offsets, float, k, p, out, at)
+}
+
+// The stores of the parameters that are floats, or of those that are not, among `n` from cell `from` on.
+fn store_params(
+    tables: &[u8],
+    offsets: &[u64],
+    sheet: &[u8],
+    n: u64,
+    from: usize,
+    float: bool,
+    out: &mut [u8],
+    at: usize,
+) -> Made
+    requires { ⌜ from + 3 * n ≤ cells (now sheet) ⌝ }
+    requires { ⌜ at ≤ 1024 ⌝ }
+    ensures { λ r. ⌜ madeSays r ≡ counted (storeParams (lent (now (tables .entry)) (now (offsets .entry))) float 0 (varsAt (now (sheet .entry)) n from)) ⌝ }
+    ensures { λ r. ⌜ PutAll at (storeParams (lent (now (tables .entry)) (now (offsets .entry))) float 0 (varsAt (now (sheet .entry)) n from)) (now (out .entry)) (now (out .exit)) ⌝ }
+{
+    let mut left = n;
+    let mut cell = from;
+    let mut k: u64 = 0;
+    while 0 < left {
+        let p = var_at(sheet, cell);
+        let place = at + 64 * k as usize;
+        match store_param(tables, offsets, float, k, p, out, place) {
+            Made::Records(made) => {
+                k += made;
+            }
+            Made::Refused(number) => {
+                return Made::Refused(number);
+            }
+        }
+        cell += 3;
+        left -= 1;
+    }
+    Made::Records(k)
+}
+
+// `push rbp ; mov rbp, rsp ; sub rsp, bytes`, at the start, if there is room.
+fn enter(bytes: u64, out: &mut [u8])
+    ensures { λ _. ⌜ now (out .exit) ≡ emitted 0 (entering bytes) (now (out .entry)) ⌝ }
+{
+    if 192 <= out.len() {
+        let rbp = Operand::Reg(Register::RBP);
+        let rsp = Operand::Reg(Register::RSP);
+        put_stack(
+            out,
+            0,
+            Instruction::Stack {
+                op: StackOp::Push,
+                value: rbp,
+                size: Size::NoSize,
+            },
+        );
+        put_binary(
+            out,
+            64,
+            Instruction::Binary {
+                op: BinOp::Mov,
+                dst: rbp,
+                src: rsp,
+                size: Size::NoSize,
+            },
+        );
+        put_binary(
+            out,
+            128,
+            Instruction::Binary {
+                op: BinOp::Sub,
+                dst: rsp,
+                src: Operand::Imm(bytes),
+                size: Size::NoSize,
+            },
+        );
+    }
+}
+
+// Then each of the `n` parameters, from cell `from` on, goes from its register into its slot.
+pub fn func_prologue(
+    tables: &[u8],
+    offsets: &[u64],
+    sheet: &[u8],
+    n: u64,
+    from: usize,
+    bytes: u64,
+    out: &mut [u8],
+) -> Made
+    requires { ⌜ from + 3 * n ≤ cells (now sheet) ⌝ }
+    ensures { λ r. ⌜ madeSays r ≡ counted (funcPrologue (lent (now (tables .entry)) (now (offsets .entry))) bytes (varsAt (now (sheet .entry)) n from)) ⌝ }
+    ensures { λ r. ⌜ PutAll 0 (funcPrologue (lent (now (tables .entry)) (now (offsets .entry))) bytes (varsAt (now (sheet .entry)) n from)) (now (out .entry)) (now (out .exit)) ⌝ }
+{
+    enter(bytes, out);
+    let words = match store_params(tables, offsets, sheet, n, from, false, out, 192) {
+        Made::Records(words) => words,
+        Made::Refused(number) => return Made::Refused(number),
+    };
+    let place = 192 + 64 * words as usize;
+    match store_params(tables, offsets, sheet, n, from, true, out, place) {
+        Made::Records(floats) => Made::Records(3 + words + floats),
+        Made::Refused(number) => Made::Refused(number),
+    }
+}
