@@ -80,9 +80,13 @@ withReg r v s = record { regs = update (s .regs) r v; mem = s .mem; flags = s .f
 
 -- ---- operands
 
--- what a write of n bytes leaves in a general register that held a: one or two bytes keep the bits above, four clear the upper half
+-- a write of one or two bytes keeps the bits above them, one of four clears the upper half
+abbrev pub keepsUpper : ℕ → Bool
+keepsUpper n = ltb n 4
+
+-- what a write of n bytes leaves in a general register that held a
 unfoldable pub merge : ℕ → ℕ → ℕ → ℕ
-merge n a v = cond (ltb n 4) (a / bound n * bound n + v % bound n) (v % bound n)
+merge n a v = cond (keepsUpper n) (a / bound n * bound n + v % bound n) (v % bound n)
 
 -- RBP plus a displacement, or RIP-relative, at a constant
 abbrev pub placeOf : Base → ℕ → State → ℕ
