@@ -20,8 +20,9 @@ use Rattle.x86.proofs.Decoded.{recordBytes-length}
 use Rattle.utils.specs.declared.Flag.{Flag}
 use Rattle.utils.specs.declared.Sized.{Sized}
 use Rattle.utils.specs.declared.Placed.{Placed}
+use Rattle.utils.specs.declared.Loaded.{Loaded}
 use Rattle.utils.specs.declared.Made.{Made}
-use Rattle.utils.specs.Answers.{flagSays, sizedSays, placedSays, madeSays, emitted}
+use Rattle.utils.specs.Answers.{flagSays, sizedSays, placedSays, loadedSays, madeSays, emitted}
 
 -- ---- bytes of lists
 
@@ -103,3 +104,9 @@ placed-is e h = sym e ∙ ap placedSays h
 
 pub placed-refused : {x : Result Operand} {r : Placed} {n : ℕ} → placedSays r ≡ x → r ≡ Placed.Refused n → x ≡ refused n
 placed-refused e h = sym e ∙ ap placedSays h
+
+pub loaded-is : {x : Result Instruction} {r : Loaded} {i : Instruction} → loadedSays r ≡ x → r ≡ Loaded.Is i → x ≡ ok i
+loaded-is e h = sym e ∙ ap loadedSays h
+
+pub loaded-refused : {x : Result Instruction} {r : Loaded} {n : ℕ} → loadedSays r ≡ x → r ≡ Loaded.Refused n → x ≡ refused n
+loaded-refused e h = sym e ∙ ap loadedSays h

@@ -1,4 +1,3 @@
 pub mod Rest
-pub mod Loads
 pub mod Emitted
 pub mod Parts

@@ -14,8 +14,9 @@ use Rattle.ir.specs.Types.{ok, refused, _>>=_}
 use Rattle.x86.proofs.enums.Operand as elfOperand
 use Rattle.x86.specs.declared.enums.Operand.{Operand}
 use Rattle.codegen.specs.Context.{Context, floatAt, floatShort}
-use Rattle.codegen.specs.Utils.{sizeFrom, isConstant, convertOperand}
-use Rattle.utils.specs.Loads.{isString, loadSource}
+use Rattle.x86.specs.declared.enums.Size.{Size}
+use Rattle.x86.specs.declared.register.Register.{Register}
+use Rattle.codegen.specs.Utils.{sizeFrom, isConstant, loadValue, loadOperand}
 
 pub odd-width : (n : ℕ) → (n ≡ 1 → ⊥) → (n ≡ 2 → ⊥) → (n ≡ 4 → ⊥) → (n ≡ 8 → ⊥) → refused 6 ≡ sizeFrom n
 unfolding sizeFrom
@@ -29,24 +30,17 @@ not-constant (Operand.Sym n) h = refl
 not-constant (Operand.Label n) h = refl
 not-constant (Operand.MemoryAddress a) h = refl
 
-pub not-string : (x : Operand) → OneOf (0 ∷ 1 ∷ 2 ∷ 3 ∷ 4 ∷ []) (tagOf elfOperand.the-type x) → false ≡ isString x
-not-string Operand.NoOperand h = refl
-not-string (Operand.Reg r) h = refl
-not-string (Operand.Imm n) h = refl
-not-string (Operand.Sym n) h = refl
-not-string (Operand.Label n) h = refl
-not-string (Operand.MemoryAddress a) h = absurd (miss (0 ∷ 1 ∷ 2 ∷ 3 ∷ 4 ∷ []) 5 tt h)
-
--- of an operand that is no string's address the source is the operand
-pub not-data : (ctx : Context) (x : IrOp) → OneOf (0 ∷ 1 ∷ 2 ∷ 3 ∷ 4 ∷ 6 ∷ []) (tagOf irOperand.the-type x) → convertOperand ctx x ≡ loadSource ctx x
-unfolding loadSource
-not-data ctx (IrOp.Var v) h = refl
-not-data ctx (IrOp.Int n s u) h = refl
-not-data ctx (IrOp.Float k) h = refl
-not-data ctx (IrOp.Bool b) h = refl
-not-data ctx (IrOp.Address v) h = refl
-not-data ctx (IrOp.DataAddress k) h = absurd (miss (0 ∷ 1 ∷ 2 ∷ 3 ∷ 4 ∷ 6 ∷ []) 5 tt h)
-not-data ctx IrOp.Null h = refl
+-- of an operand that is no string's address
+pub not-data : (ctx : Context) (reg : Register) (x : IrOp) (size : Size) → OneOf (0 ∷ 1 ∷ 2 ∷ 3 ∷ 4 ∷ 6 ∷ []) (tagOf irOperand.the-type x)
+    → loadValue ctx reg x size ≡ loadOperand ctx reg x size
+unfolding loadOperand
+not-data ctx reg (IrOp.Var v) size h = refl
+not-data ctx reg (IrOp.Int n s u) size h = refl
+not-data ctx reg (IrOp.Float k) size h = refl
+not-data ctx reg (IrOp.Bool b) size h = refl
+not-data ctx reg (IrOp.Address v) size h = refl
+not-data ctx reg (IrOp.DataAddress k) size h = absurd (miss (0 ∷ 1 ∷ 2 ∷ 3 ∷ 4 ∷ 6 ∷ []) 5 tt h)
+not-data ctx reg IrOp.Null size h = refl
 
 pub no-floats : (id len : ℕ) → len / 8 ≤ 0 → ltb id (len / 8 - 1) ≡ false
 no-floats id len h = le-ltb id (len / 8 - 1) (omega arith)

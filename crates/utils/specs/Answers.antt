@@ -15,6 +15,7 @@ use Rattle.codegen.specs.Context.{Context, contextOf}
 use Rattle.utils.specs.declared.Flag.{Flag}
 use Rattle.utils.specs.declared.Sized.{Sized}
 use Rattle.utils.specs.declared.Placed.{Placed}
+use Rattle.utils.specs.declared.Loaded.{Loaded}
 use Rattle.utils.specs.declared.Made.{Made}
 
 abbrev pub flagSays : Flag → Result Bool
@@ -28,6 +29,10 @@ sizedSays (Sized.Refused n) = refused n
 abbrev pub placedSays : Placed → Result Operand
 placedSays (Placed.Is x) = ok x
 placedSays (Placed.Refused n) = refused n
+
+abbrev pub loadedSays : Loaded → Result Instruction
+loadedSays (Loaded.Is i) = ok i
+loadedSays (Loaded.Refused n) = refused n
 
 abbrev pub madeSays : Made → Result ℕ
 madeSays (Made.Records n) = ok n

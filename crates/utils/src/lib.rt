@@ -13,20 +13,14 @@ use x86::enums::Operand;
 use x86::enums::Size;
 use x86::mem_address::Base;
 use x86::mem_address::MemAddress;
-use x86::record::put_binary;
-use x86::record::put_extend;
-use x86::record::put_lea;
 use x86::register::Register;
 ghost use mathlib.Core.Path.{_≡_};
-ghost use Prim.Native.Nat.{_+_, _-_, _/_, _≤_};
-ghost use lib.ListN.{length};
-ghost use Rattle.cells.specs.Cells.{write, minus};
+ghost use Prim.Native.Nat.{_-_, _/_};
+ghost use Rattle.cells.specs.Cells.{minus};
 ghost use Rattle.ir.specs.Answers.{numberSays};
-ghost use Rattle.x86.specs.Records.{recordOf, recordBytes};
 ghost use Rattle.codegen.specs.Context.{displacement, stringAt, floatShort};
-ghost use Rattle.codegen.specs.Utils.{sizeFrom, varSize, convertVar, convertOperand, sizeOr, isOneByte, isConstant};
-ghost use Rattle.utils.specs.Answers.{sizedSays, placedSays, flagSays, lent};
-ghost use Rattle.utils.specs.Loads.{isString, loadSource, loadRecord};
+ghost use Rattle.codegen.specs.Utils.{sizeFrom, varSize, convertVar, convertOperand, sizeOr, isOneByte, isConstant, loadFrom, loadString, loadValue, loadOperand};
+ghost use Rattle.utils.specs.Answers.{sizedSays, placedSays, flagSays, loadedSays, lent};
 
 // A flag, a size, an operand or a number of records; or the number of a refusal.
 pub enum Flag {
@@ -41,6 +35,11 @@ pub enum Sized {
 
 pub enum Placed {
     Is(Operand),
+    Refused(u64),
+}
+
+pub enum Loaded {
+    Is(Instruction),
     Refused(u64),
 }
 
@@ -167,34 +166,21 @@ pub fn convert_operand(tables: &[u8], offsets: &[u64], op: IrOp) -> Placed
     }
 }
 
-// What a load reads: a string's address, or the operand itself.
-pub fn load_source(tables: &[u8], offsets: &[u64], op: IrOp) -> Placed
-    ensures { λ r. ⌜ placedSays r ≡ loadSource (lent (now (tables .entry)) (now (offsets .entry))) op ⌝ }
+// `load_operand` of a string: its address.
+fn load_string(tables: &[u8], offsets: &[u64], reg: Register, id: u64) -> Loaded
+    ensures { λ r. ⌜ loadedSays r ≡ loadString (lent (now (tables .entry)) (now (offsets .entry))) reg id ⌝ }
 {
-    if let IrOp::DataAddress(id) = op {
-        return match string_at(tables, offsets, id) {
-            Number::Is(disp) => Placed::Is(Operand::MemoryAddress(MemAddress {
+    match string_at(tables, offsets, id) {
+        Number::Is(disp) => Loaded::Is(Instruction::Lea {
+            src: Operand::MemoryAddress(MemAddress {
                 base: Base::String,
                 disp,
-            })),
-            Number::Refused(n) => Placed::Refused(n),
-        };
+            }),
+            dst: reg,
+            size: Size::NoSize,
+        }),
+        Number::Refused(n) => Loaded::Refused(n),
     }
-    convert_operand(tables, offsets, op)
-}
-
-fn is_string(src: Operand) -> bool
-    ensures { λ r. ⌜ r ≡ isString src ⌝ }
-{
-    if let Operand::MemoryAddress(a) = src {
-        let base = a.base;
-        return match base {
-            Base::Rbp => false,
-            Base::String => true,
-            Base::Float => false,
-        };
-    }
-    false
 }
 
 fn is_one_byte(size: Size) -> bool
@@ -232,72 +218,60 @@ pub fn size_or(a: Size, b: Size) -> Size
     }
 }
 
-// Writes the record by which `load_operand` brings what it reads into a register.
-pub fn put_load(out: &mut [u8], at: usize, reg: Register, src: Operand, size: Size)
-    requires { ⌜ at + 64 ≤ length (now out) ⌝ }
-    ensures { λ _. ⌜ now (out .exit) ≡ write (now (out .entry)) at (recordBytes (recordOf (loadRecord reg src size))) ⌝ }
+// An XMM register is loaded by LoadF; one byte by Movzx, or by a four-byte Mov of a constant; the rest by Mov.
+fn load_from(reg: Register, src: Operand, size: Size) -> Instruction
+    ensures { λ r. ⌜ r ≡ loadFrom reg src size ⌝ }
 {
     let dst = Operand::Reg(reg);
-    if is_string(src) {
-        put_lea(
-            out,
-            at,
-            Instruction::Lea {
-                src,
-                dst: reg,
-                size: Size::NoSize,
-            },
-        );
-        return;
-    }
     if reg.is_xmm() {
-        put_binary(
-            out,
-            at,
-            Instruction::Binary {
-                op: BinOp::LoadF,
-                dst,
-                src,
-                size,
-            },
-        );
-        return;
-    }
-    if is_one_byte(size) {
-        if is_constant(src) {
-            put_binary(
-                out,
-                at,
-                Instruction::Binary {
-                    op: BinOp::Mov,
-                    dst,
-                    src,
-                    size: Size::U32,
-                },
-            );
-            return;
-        }
-        put_extend(
-            out,
-            at,
-            Instruction::Extend {
-                op: ExtendOp::Movzx,
-                dst: reg,
-                src,
-                src_size: Size::U8,
-                size: Size::U64,
-            },
-        );
-        return;
-    }
-    put_binary(
-        out,
-        at,
-        Instruction::Binary {
-            op: BinOp::Mov,
+        return Instruction::Binary {
+            op: BinOp::LoadF,
             dst,
             src,
             size,
-        },
-    );
+        };
+    }
+    if is_one_byte(size) {
+        if is_constant(src) {
+            return Instruction::Binary {
+                op: BinOp::Mov,
+                dst,
+                src,
+                size: Size::U32,
+            };
+        }
+        return Instruction::Extend {
+            op: ExtendOp::Movzx,
+            dst: reg,
+            src,
+            src_size: Size::U8,
+            size: Size::U64,
+        };
+    }
+    Instruction::Binary {
+        op: BinOp::Mov,
+        dst,
+        src,
+        size,
+    }
+}
+
+// `load_operand` of any other operand; the size is the operand's own where none is given.
+fn load_value(tables: &[u8], offsets: &[u64], reg: Register, op: IrOp, size: Size) -> Loaded
+    ensures { λ r. ⌜ loadedSays r ≡ loadValue (lent (now (tables .entry)) (now (offsets .entry))) reg op size ⌝ }
+{
+    match convert_operand(tables, offsets, op) {
+        Placed::Is(src) => Loaded::Is(load_from(reg, src, size_or(size, op.size()))),
+        Placed::Refused(n) => Loaded::Refused(n),
+    }
+}
+
+// The record that brings an operand into a register.
+pub fn load_operand(tables: &[u8], offsets: &[u64], reg: Register, op: IrOp, size: Size) -> Loaded
+    ensures { λ r. ⌜ loadedSays r ≡ loadOperand (lent (now (tables .entry)) (now (offsets .entry))) reg op size ⌝ }
+{
+    if let IrOp::DataAddress(id) = op {
+        return load_string(tables, offsets, reg, id);
+    }
+    load_value(tables, offsets, reg, op, size)
 }
