@@ -15,8 +15,7 @@ use x86::enums::Instruction;
 use x86::enums::Operand;
 use x86::enums::Size;
 use x86::enums::StackOp;
-use x86::record::put_binary;
-use x86::record::put_stack;
+use x86::record::put_instruction;
 use x86::register::Register;
 ghost use mathlib.Core.Path.{_≡_};
 ghost use mathlib.Core.Bool.{true, cond};
@@ -123,7 +122,7 @@ fn store_one(
         Sized::Refused(n) => return Made::Refused(n),
     };
     if 1 <= room(out.len(), at) {
-        put_binary(
+        put_instruction(
             out,
             at,
             Instruction::Binary {
@@ -203,7 +202,7 @@ fn enter(bytes: u64, out: &mut [u8])
     if 192 <= out.len() {
         let rbp = Operand::Reg(Register::RBP);
         let rsp = Operand::Reg(Register::RSP);
-        put_stack(
+        put_instruction(
             out,
             0,
             Instruction::Stack {
@@ -212,7 +211,7 @@ fn enter(bytes: u64, out: &mut [u8])
                 size: Size::NoSize,
             },
         );
-        put_binary(
+        put_instruction(
             out,
             64,
             Instruction::Binary {
@@ -222,7 +221,7 @@ fn enter(bytes: u64, out: &mut [u8])
                 size: Size::NoSize,
             },
         );
-        put_binary(
+        put_instruction(
             out,
             128,
             Instruction::Binary {

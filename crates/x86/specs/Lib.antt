@@ -1,3 +1,4 @@
 pub mod Registers
 pub mod Records
 pub mod Decode
+pub mod Says

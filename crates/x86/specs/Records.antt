@@ -1,9 +1,7 @@
 -- The eight cells of a record, and its 64 bytes (01, "Record"). Codes are positions in Krc's enums (elf/instructions/enums.rs).
 use Prim.Native.Nat.{ℕ, _+_, _*_}
 use mathlib.Core.List.{List, [], _∷_, _++_}
-use mathlib.Core.Bool.{cond}
-use lib.Dec.{eqb}
-use Rattle.cells.specs.Cells.{bytesOf, write}
+use Rattle.cells.specs.Cells.{bytesOf}
 use Rattle.x86.specs.declared.mem_address.Base.{Base}
 use Rattle.x86.specs.declared.enums.Size.{Size}
 use Rattle.x86.specs.declared.enums.Operand.{Operand}
@@ -178,7 +176,3 @@ recordBytes r =
 unfoldable pub listBytes : List Instruction → List ℕ
 listBytes [] = []
 listBytes (i ∷ is) = recordBytes (recordOf i) ++ listBytes is
-
--- the bytes with the record of an instruction from `at` on, if it has a form
-unfoldable pub writeForm : ℕ → Instruction → ℕ → List ℕ → List ℕ
-writeForm form i at bs = cond (eqb (recordOf i .form) form) (write bs at (recordBytes (recordOf i))) bs

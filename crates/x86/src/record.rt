@@ -1,5 +1,4 @@
-// Writing of records: the eight cells of an instruction, as 64 bytes of a lent slice. There is a writer for each form, so that a caller, which
-// knows the form of what it makes, pays for that form alone.
+// Records: the eight cells of an instruction, and their writing as 64 bytes of a lent slice.
 use crate::enums::Instruction;
 use crate::enums::Operand;
 use crate::enums::Size;
@@ -7,7 +6,19 @@ ghost use mathlib.Core.Path.{_≡_};
 ghost use Prim.Native.Nat.{_+_, _≤_};
 ghost use lib.ListN.{length};
 ghost use Rattle.cells.specs.Cells.{write};
-ghost use Rattle.x86.specs.Records.{cellsRecord, recordWith, recordBytes, writeForm};
+ghost use Rattle.x86.specs.Records.{cellsRecord, recordWith, recordOf, recordBytes};
+ghost use Rattle.x86.specs.Says.{recordSays};
+
+pub struct Record {
+    pub form: u64,
+    pub operation: u64,
+    pub dst_tag: u64,
+    pub dst: u64,
+    pub src_tag: u64,
+    pub src: u64,
+    pub size: u64,
+    pub src_size: u64,
+}
 
 // Writes eight cells from `at`; every other byte stays.
 fn put_words(
@@ -35,228 +46,155 @@ fn put_words(
     cells::put_word(out, at + 56, src_size);
 }
 
-// Writes the record with a form, an operation, two operands and two sizes from `at`; every other byte stays.
-fn put_cells(
-    out: &mut [u8],
-    at: usize,
+// The record with a form, an operation, two operands and two sizes.
+fn record_with(
     form: u64,
     operation: u64,
     dst: Operand,
     src: Operand,
     size: Size,
     src_size: Size,
-)
-    requires { ⌜ at + 64 ≤ length (now out) ⌝ }
-    ensures { λ _. ⌜ now (out .exit) ≡ write (now (out .entry)) at (recordBytes (recordWith form operation dst src size «src_size»)) ⌝ }
+) -> Record
+    ensures { λ r. ⌜ recordSays r ≡ recordWith form operation dst src size «src_size» ⌝ }
 {
-    put_words(
-        out,
-        at,
+    Record {
         form,
         operation,
-        dst.tag(),
-        dst.value(),
-        src.tag(),
-        src.value(),
-        size.code(),
-        src_size.code(),
-    );
-}
-
-// Writes the record of a `Binary` from `at`; any other instruction is left to its own form's writer.
-pub fn put_binary(out: &mut [u8], at: usize, i: Instruction)
-    requires { ⌜ at + 64 ≤ length (now out) ⌝ }
-    ensures { λ _. ⌜ now (out .exit) ≡ writeForm 0 i at (now (out .entry)) ⌝ }
-{
-    if let Instruction::Binary { op, dst, src, size } = i {
-        put_cells(out, at, 0, op.code(), dst, src, size, Size::NoSize);
+        dst_tag: dst.tag(),
+        dst: dst.value(),
+        src_tag: src.tag(),
+        src: src.value(),
+        size: size.code(),
+        src_size: src_size.code(),
     }
 }
 
-// Writes the record of a `ComplexBinary` from `at`; any other instruction is left to its own form's writer.
-pub fn put_complex_binary(out: &mut [u8], at: usize, i: Instruction)
-    requires { ⌜ at + 64 ≤ length (now out) ⌝ }
-    ensures { λ _. ⌜ now (out .exit) ≡ writeForm 4 i at (now (out .entry)) ⌝ }
+// The record of an instruction. The form is the position in Krc's `Instruction`.
+pub fn record_of(i: Instruction) -> Record
+    ensures { λ r. ⌜ recordSays r ≡ recordOf i ⌝ }
 {
-    if let Instruction::ComplexBinary { op, dst, src, size } = i {
-        put_cells(out, at, 4, op.code(), dst, src, size, Size::NoSize);
-    }
-}
-
-// Writes the record of a `Convert` from `at`; any other instruction is left to its own form's writer.
-pub fn put_convert(out: &mut [u8], at: usize, i: Instruction)
-    requires { ⌜ at + 64 ≤ length (now out) ⌝ }
-    ensures { λ _. ⌜ now (out .exit) ≡ writeForm 5 i at (now (out .entry)) ⌝ }
-{
-    if let Instruction::Convert { op, dst, src, size } = i {
-        put_cells(
-            out,
-            at,
+    match i {
+        Instruction::Binary { op, dst, src, size } => record_with(
+            0,
+            op.code(),
+            dst,
+            src,
+            size,
+            Size::NoSize,
+        ),
+        Instruction::ComplexBinary { op, dst, src, size } => record_with(
+            4,
+            op.code(),
+            dst,
+            src,
+            size,
+            Size::NoSize,
+        ),
+        Instruction::Convert { op, dst, src, size } => record_with(
             5,
             op.code(),
             Operand::Reg(dst),
             src,
             size,
             Size::NoSize,
-        );
-    }
-}
-
-// Writes the record of a `Ctrl` from `at`; any other instruction is left to its own form's writer.
-pub fn put_ctrl(out: &mut [u8], at: usize, i: Instruction)
-    requires { ⌜ at + 64 ≤ length (now out) ⌝ }
-    ensures { λ _. ⌜ now (out .exit) ≡ writeForm 6 i at (now (out .entry)) ⌝ }
-{
-    if let Instruction::Ctrl { op, target } = i {
-        put_cells(
-            out,
-            at,
+        ),
+        Instruction::Ctrl { op, target } => record_with(
             6,
             op.code(),
             target,
             Operand::NoOperand,
             Size::NoSize,
             Size::NoSize,
-        );
-    }
-}
-
-// Writes the record of a `Extend` from `at`; any other instruction is left to its own form's writer.
-pub fn put_extend(out: &mut [u8], at: usize, i: Instruction)
-    requires { ⌜ at + 64 ≤ length (now out) ⌝ }
-    ensures { λ _. ⌜ now (out .exit) ≡ writeForm 7 i at (now (out .entry)) ⌝ }
-{
-    if let Instruction::Extend {
-        op,
-        dst,
-        src,
-        src_size,
-        size,
-    } = i {
-        put_cells(
-            out,
-            at,
-            7,
-            op.code(),
+        ),
+        Instruction::Extend {
+            op,
+            dst,
+            src,
+            src_size,
+            size,
+        } => record_with(7, op.code(), Operand::Reg(dst), src, size, src_size),
+        Instruction::Lea { src, dst, size } => record_with(
+            8,
+            0,
             Operand::Reg(dst),
             src,
             size,
-            src_size,
-        );
-    }
-}
-
-// Writes the record of a `Lea` from `at`; any other instruction is left to its own form's writer.
-pub fn put_lea(out: &mut [u8], at: usize, i: Instruction)
-    requires { ⌜ at + 64 ≤ length (now out) ⌝ }
-    ensures { λ _. ⌜ now (out .exit) ≡ writeForm 8 i at (now (out .entry)) ⌝ }
-{
-    if let Instruction::Lea { src, dst, size } = i {
-        put_cells(out, at, 8, 0, Operand::Reg(dst), src, size, Size::NoSize);
-    }
-}
-
-// Writes the record of a `Label` from `at`; any other instruction is left to its own form's writer.
-pub fn put_label(out: &mut [u8], at: usize, i: Instruction)
-    requires { ⌜ at + 64 ≤ length (now out) ⌝ }
-    ensures { λ _. ⌜ now (out .exit) ≡ writeForm 9 i at (now (out .entry)) ⌝ }
-{
-    if let Instruction::Label(n) = i {
-        put_cells(
-            out,
-            at,
+            Size::NoSize,
+        ),
+        Instruction::Label(n) => record_with(
             9,
             0,
             Operand::Label(n),
             Operand::NoOperand,
             Size::NoSize,
             Size::NoSize,
-        );
-    }
-}
-
-// Writes the record of a `Prefix` from `at`; any other instruction is left to its own form's writer.
-pub fn put_prefix(out: &mut [u8], at: usize, i: Instruction)
-    requires { ⌜ at + 64 ≤ length (now out) ⌝ }
-    ensures { λ _. ⌜ now (out .exit) ≡ writeForm 11 i at (now (out .entry)) ⌝ }
-{
-    if let Instruction::Prefix { prefix, op, size } = i {
-        put_cells(
-            out,
-            at,
+        ),
+        Instruction::Prefix { prefix, op, size } => record_with(
             11,
             16 * prefix.code() + op.code(),
             Operand::NoOperand,
             Operand::NoOperand,
             size,
             Size::NoSize,
-        );
-    }
-}
-
-// Writes the record of a `SetCC` from `at`; any other instruction is left to its own form's writer.
-pub fn put_set_cc(out: &mut [u8], at: usize, i: Instruction)
-    requires { ⌜ at + 64 ≤ length (now out) ⌝ }
-    ensures { λ _. ⌜ now (out .exit) ≡ writeForm 12 i at (now (out .entry)) ⌝ }
-{
-    if let Instruction::SetCC { op, dst } = i {
-        put_cells(
-            out,
-            at,
+        ),
+        Instruction::SetCC { op, dst } => record_with(
             12,
             op.code(),
             dst,
             Operand::NoOperand,
             Size::NoSize,
             Size::NoSize,
-        );
-    }
-}
-
-// Writes the record of a `Shift` from `at`; any other instruction is left to its own form's writer.
-pub fn put_shift(out: &mut [u8], at: usize, i: Instruction)
-    requires { ⌜ at + 64 ≤ length (now out) ⌝ }
-    ensures { λ _. ⌜ now (out .exit) ≡ writeForm 13 i at (now (out .entry)) ⌝ }
-{
-    if let Instruction::Shift { op, dst, src, size } = i {
-        put_cells(out, at, 13, op.code(), dst, src, size, Size::NoSize);
-    }
-}
-
-// Writes the record of a `Stack` from `at`; any other instruction is left to its own form's writer.
-pub fn put_stack(out: &mut [u8], at: usize, i: Instruction)
-    requires { ⌜ at + 64 ≤ length (now out) ⌝ }
-    ensures { λ _. ⌜ now (out .exit) ≡ writeForm 14 i at (now (out .entry)) ⌝ }
-{
-    if let Instruction::Stack { op, value, size } = i {
-        put_cells(
-            out,
-            at,
+        ),
+        Instruction::Shift { op, dst, src, size } => record_with(
+            13,
+            op.code(),
+            dst,
+            src,
+            size,
+            Size::NoSize,
+        ),
+        Instruction::Stack { op, value, size } => record_with(
             14,
             op.code(),
             value,
             Operand::NoOperand,
             size,
             Size::NoSize,
-        );
-    }
-}
-
-// Writes the record of a `Unary` from `at`; any other instruction is left to its own form's writer.
-pub fn put_unary(out: &mut [u8], at: usize, i: Instruction)
-    requires { ⌜ at + 64 ≤ length (now out) ⌝ }
-    ensures { λ _. ⌜ now (out .exit) ≡ writeForm 17 i at (now (out .entry)) ⌝ }
-{
-    if let Instruction::Unary { op, dst, size } = i {
-        put_cells(
-            out,
-            at,
+        ),
+        Instruction::Unary { op, dst, size } => record_with(
             17,
             op.code(),
             dst,
             Operand::NoOperand,
             size,
             Size::NoSize,
-        );
+        ),
     }
+}
+
+// Writes a record from `at`; every other byte stays.
+pub fn put_record(out: &mut [u8], at: usize, r: Record)
+    requires { ⌜ at + 64 ≤ length (now out) ⌝ }
+    ensures { λ _. ⌜ now (out .exit) ≡ write (now (out .entry)) at (recordBytes (recordSays r)) ⌝ }
+{
+    put_words(
+        out,
+        at,
+        r.form,
+        r.operation,
+        r.dst_tag,
+        r.dst,
+        r.src_tag,
+        r.src,
+        r.size,
+        r.src_size,
+    );
+}
+
+// Writes the record of an instruction from `at`; every other byte stays.
+pub fn put_instruction(out: &mut [u8], at: usize, i: Instruction)
+    requires { ⌜ at + 64 ≤ length (now out) ⌝ }
+    ensures { λ _. ⌜ now (out .exit) ≡ write (now (out .entry)) at (recordBytes (recordOf i)) ⌝ }
+{
+    put_record(out, at, record_of(i));
 }

@@ -1,7 +1,6 @@
 use mathlib.Core.Path.{refl}
 use native.Mathlib.Omega.{arith}
 use Rattle.utils.proofs.Emitted.{all, first, none, placed-is, placed-refused, sized-is, sized-refused}
-use Rattle.x86.proofs.Forms.{as-binary}
 use Rattle.frame.specs.Stores.{storeOne}
 use borrow.Author.Needs.{needs}
 use Rattle.frame.proofs.store_one.Statement.{statement}
@@ -42,15 +41,15 @@ store-op-requires c κs = search needs
 param-register-requires : tie.Need-param-register-requires
 param-register-requires c κs = search needs
 
-put-binary-requires : tie.Need-put-binary-requires
-put-binary-requires c κs = search needs
+put-instruction-requires : tie.Need-put-instruction-requires
+put-instruction-requires c κs = search needs
 
 same-length : tie.Need-same-length
 same-length c = search needs
 
 returns-3 : tie.Need-returns-3
 unfolding storeOne
-returns-3 c = rw (placed-is (c .before .before .before .before .before .before .before .before .before .before .before .before .before .before .before .convert-var .ensures) (c .before .before .before .before .before .before .before .before .before .before .before .before .before .dst .given .1), sized-is (c .before .before .before .before .before .before .before .before .before .before .before .var-size .ensures) (c .before .before .before .before .before .before .before .before .before .size .given .1), ← c .before .before .before .before .store-op .ensures, ← c .before .before .before .param-register .ensures) (refl, all (first _ (as-binary _ _ _ _ _ _ _ (c .before .before .put-binary .ensures))) (omega (arith, c .before .before .before .before .before .before .before .before .before .before .before .before .before .before .before .before .before .before .before .good, c .before .before .before .before .before .before .before .room .ensures, c .before .before .before .before .before .before .if1 .taken, c .before .before .put-binary .kept .0)))
+returns-3 c = rw (placed-is (c .before .before .before .before .before .before .before .before .before .before .before .before .before .before .before .convert-var .ensures) (c .before .before .before .before .before .before .before .before .before .before .before .before .before .dst .given .1), sized-is (c .before .before .before .before .before .before .before .before .before .before .before .var-size .ensures) (c .before .before .before .before .before .before .before .before .before .size .given .1), ← c .before .before .before .before .store-op .ensures, ← c .before .before .before .param-register .ensures) (refl, all (first _ ((c .before .before .put-instruction .ensures))) (omega (arith, c .before .before .before .before .before .before .before .before .before .before .before .before .before .before .before .before .before .before .before .good, c .before .before .before .before .before .before .before .room .ensures, c .before .before .before .before .before .before .if1 .taken, c .before .before .put-instruction .kept .0)))
 
 returns-4 : tie.Need-returns-4
 unfolding storeOne
@@ -71,7 +70,7 @@ store-one-spec =
     room-requires
     store-op-requires
     param-register-requires
-    put-binary-requires
+    put-instruction-requires
     same-length
     returns-3
     returns-4)
