@@ -1,0 +1,25 @@
+use mathlib.Core.List.{[], _∷_}
+use native.Mathlib.Omega.{arith}
+use Rattle.records.proofs.Written.{both, single}
+use borrow.Author.Needs.{needs}
+use Rattle.records.proofs.put_five.Statement.{statement}
+use Rattle.records.proofs.put_five.Tie as tie
+
+put-two-requires : tie.Need-put-two-requires
+put-two-requires c κs = search needs
+
+add-put-three : tie.Need-add-put-three
+add-put-three c = search needs
+
+put-three-requires : tie.Need-put-three-requires
+put-three-requires c κs = search needs
+
+same-length : tie.Need-same-length
+same-length c = search needs
+
+returns : tie.Need-returns
+returns c = both _ _ _ _ _ (_ ∷ _ ∷ []) (_ ∷ _ ∷ _ ∷ []) (c .before .before .before .before .before .before .put-two .ensures) (c .before .before .put-three .ensures) (omega arith) (omega (arith, c .before .before .before .before .before .before .before .before .before .pre))
+
+pub put-five-spec : {M : Type 1} → statement M
+put-five-spec =
+    tie.close (tie.spec put-two-requires add-put-three put-three-requires same-length returns)
