@@ -1,0 +1,36 @@
+use Rattle.records.specs.Records.{recordsOf}
+use Rattle.codegen.specs.Instructions.{generateJump}
+use borrow.Author.Needs.{needs}
+use Rattle.instructions.proofs.generate_jump.Statement.{statement}
+use Rattle.instructions.proofs.generate_jump.Tie as tie
+
+label-at-requires : tie.Need-label-at-requires
+label-at-requires c κs = search needs
+
+enum-known-label : tie.Need-enum-known-label
+enum-known-label c = search needs
+
+one-requires : tie.Need-one-requires
+one-requires c κs = search needs
+
+enum-known-n : tie.Need-enum-known-n
+enum-known-n c = search needs
+
+returns : tie.Need-returns
+unfolding generateJump recordsOf
+returns c = simp (← c .before .before .before .before .label-at .ensures, c .before .before .label .given .1, c .one .ensures)
+
+returns-2 : tie.Need-returns-2
+unfolding generateJump recordsOf
+returns-2 c = simp (← c .before .before .before .label-at .ensures, c .before .n .given .1)
+
+pub generate-jump-spec : {M : Type 1} → statement M
+generate-jump-spec =
+    tie.close
+    (tie.spec
+    label-at-requires
+    enum-known-label
+    one-requires
+    enum-known-n
+    returns
+    returns-2)
