@@ -27,7 +27,8 @@ abbrev behind-it : Context → ℕ → ℕ → Bool → List IrOp → Result (Li
 behind-it ctx done floats float xs = loadArguments ctx (done + 1 - (floats + cond float 1 0)) (floats + cond float 1 0) xs
 
 turn : (ctx : Context) (done floats : ℕ) (x : IrOp) (xs : List IrOp) → floats ≤ done → loadArguments ctx (done - floats) floats (x ∷ xs)
-    ≡ (loadArgument ctx (registersOf (floating x)) (cond (floating x) floats (done - floats)) x >>= λ load. before (load ∷ []) (behind-it ctx done floats (floating x) xs))
+    ≡ (loadArgument ctx (registersOf (floating x)) (cond (floating x) floats (done - floats)) x >>= λ load.
+    before (load ∷ []) (behind-it ctx done floats (floating x) xs))
 unfolding loadArguments
 turn ctx done floats x xs h = go (floating x)
   where

@@ -102,7 +102,8 @@ call-few ctx dest symbol {m} = go (callSymbol ctx dest symbol) (call-count ctx d
 abbrev parts : Result (List Instruction) → Result (List Instruction) → Result (List Instruction)
 parts r q = r >>= λ loads. q >>= λ rest. ok (loads ++ rest)
 
-pub in-parts : (ctx : Context) (dest : Dest) (symbol : ℕ) (args : List IrOp) → generateCall ctx dest symbol args ≡ parts (loadArguments ctx 0 0 args) (callSymbol ctx dest symbol)
+pub in-parts : (ctx : Context) (dest : Dest) (symbol : ℕ) (args : List IrOp) →
+    generateCall ctx dest symbol args ≡ parts (loadArguments ctx 0 0 args) (callSymbol ctx dest symbol)
 unfolding generateCall callSymbol
 in-parts ctx dest symbol args = go (loadArguments ctx 0 0 args) (storeResult ctx dest)
   where
@@ -113,7 +114,8 @@ in-parts ctx dest symbol args = go (loadArguments ctx 0 0 args) (storeResult ctx
     go (refused n) b = refl
 
 module _ (at : ℕ) (old t : List ℕ) where
-  pub loads-refused : (r q : Result (List Instruction)) {n : ℕ} → refused n ≡ counted r → PutAll at r old t → (refused n ≡ counted (parts r q)) × PutAll at (parts r q) old t
+  pub loads-refused : (r q : Result (List Instruction)) {n : ℕ} → refused n ≡ counted r → PutAll at r old t
+      → (refused n ≡ counted (parts r q)) × PutAll at (parts r q) old t
   loads-refused (ok is) q c l = absurd (never c)
   loads-refused (refused m) q c l = (c, l)
 

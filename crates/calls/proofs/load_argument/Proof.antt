@@ -19,7 +19,9 @@ load-operand-requires c κs = search needs
 
 returns-2 : tie.Need-returns-2
 unfolding loadArgument
-returns-2 c = simp (has-rank (c .before .before .before .registers .ensures) (c .before .before .if1 .left), ← c .before .param-register .ensures, ← c .load-operand .ensures)
+returns-2 c =
+    let t = c .before .before in
+    simp (has-rank (t .before .registers .ensures) (t .if1 .left), ← c .before .param-register .ensures, ← c .load-operand .ensures)
 
 pub load-argument-spec : {M : Type 1} → statement M
 load-argument-spec =

@@ -71,11 +71,12 @@ same-length c =
 
 returns : tie.Need-returns Inv-loop μ-loop
 returns c =
-    let t = c .before .before .before .before .before .before .before in
-    let l = t .before in
-    let q = l .before .before .before .before .before in
-    let a = c .before .before .before in
-    load-refused (l .loop .inv) (t .loop-test .taken) (c .before .before .before .before .before .before .operand-at .ensures) (c .before .before .before .before .before .floating .ensures) (c .before .before .before .before .rank .ensures) (a .load-argument .ensures)
+    let g = c .before .before .before in
+    let k = g .before in
+    let f = k .before in
+    let o = f .before in
+    let t = o .before in
+    load-refused (t .before .loop .inv) (t .loop-test .taken) (o .operand-at .ensures) (f .floating .ensures) (k .rank .ensures) (g .load-argument .ensures)
     (ap loadedSays (c .before .number .given .1))
 
 floats-with-requires : tie.Need-floats-with-requires Inv-loop μ-loop
@@ -115,11 +116,15 @@ loop-less c =
 
 loop-again : tie.Need-loop-again Inv-loop μ-loop
 loop-again c =
-    let t = c .before .before .before .before .before .before .before .before .before .before .before .before in
-    let l = t .before in
-    let q = l .before .before .before .before .before in
-    loaded-more (l .loop .inv) (t .loop-test .taken) (c .before .before .before .before .before .before .before .before .before .before .before .operand-at .ensures) (c .before .before .before .before .before .before .before .before .before .before .floating .ensures) (c .before .before .before .before .before .before .before .before .before .rank .ensures) (c .before .before .before .before .before .before .before .before .load-argument .ensures)
-    (ap loadedSays (c .before .before .before .before .before .before .load .given .1)) (c .floats-with .ensures) (c .before .before .before .put-one .ensures)
+    let u = c .before .before .before in
+    let d = u .before .before .before in
+    let g = d .before .before in
+    let k = g .before in
+    let f = k .before in
+    let o = f .before in
+    let t = o .before in
+    loaded-more (t .before .loop .inv) (t .loop-test .taken) (o .operand-at .ensures) (f .floating .ensures) (k .rank .ensures) (g .load-argument .ensures)
+    (ap loadedSays (d .load .given .1)) (c .floats-with .ensures) (u .put-one .ensures)
 
 mul-put-floats : tie.Need-mul-put-floats Inv-loop μ-loop
 mul-put-floats c =
@@ -149,7 +154,8 @@ same-length-2 c =
 
 returns-2 : tie.Need-returns-2 Inv-loop μ-loop
 returns-2 c =
-    all-loaded (c .before .before .before .before .before .loop .inv) (c .before .before .before .before .loop-test .left) (c .before .before .put-floats .ensures)
+    let t = c .before .before .before .before in
+    all-loaded (t .before .loop .inv) (t .loop-test .left) (c .before .before .put-floats .ensures)
 
 pub load-arguments-spec : {M : Type 1} → statement M
 load-arguments-spec =

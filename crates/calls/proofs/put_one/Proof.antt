@@ -16,12 +16,13 @@ same-length c = search needs
 
 returns : tie.Need-returns
 returns c =
-    all (first _ (c .before .before .put-instruction .ensures))
-    (omega (arith, c .before .before .before .before .before .before .before .good, c .before .before .before .before .before .room .ensures, c .before .before .before .before .if1 .taken))
+    let t = c .before .before .before .before in
+    all (first _ (c .before .before .put-instruction .ensures)) (omega (arith, t .before .before .before .good, t .before .room .ensures, t .if1 .taken))
 
 returns-2 : tie.Need-returns-2
 returns-2 c =
-    none (c .before .before .before .args .out .now) (c .before .before .before .args .at) 1 _ refl (omega (arith, c .before .before .before .good, c .before .room .ensures, c .if1 .left))
+    let q = c .before .before .before in
+    none (q .args .out .now) (q .args .at) 1 _ refl (omega (arith, q .good, c .before .room .ensures, c .if1 .left))
 
 pub put-one-spec : {M : Type 1} → statement M
 put-one-spec =

@@ -31,10 +31,14 @@ enum-known-n c = search needs
 
 returns-2 : tie.Need-returns-2
 unfolding recordsOf
-returns-2 c = simp (c .before .before .before .before .before .before .dest .given .1, call-kept, ← c .before .before .before .before .store-var .ensures, c .before .before .store .given .1, c .two .ensures)
+returns-2 c =
+    let v = c .before .before .before .before in
+    simp (v .before .before .dest .given .1, call-kept, ← v .store-var .ensures, c .before .before .store .given .1, c .two .ensures)
 
 returns-3 : tie.Need-returns-3
-returns-3 c = simp (c .before .before .before .before .before .dest .given .1, call-kept, ← c .before .before .before .store-var .ensures, c .before .n .given .1)
+returns-3 c =
+    let v = c .before .before .before in
+    simp (v .before .before .dest .given .1, call-kept, ← v .store-var .ensures, c .before .n .given .1)
 
 pub store-result-spec : {M : Type 1} → statement M
 store-result-spec =

@@ -27,18 +27,31 @@ enum-known-n-2 c = search needs
 
 returns-2 : tie.Need-returns-2
 unfolding storeVar
-returns-2 c = simp (← c .before .before .before .before .before .before .before .convert-var .ensures, c .before .before .before .before .before .dst .given .1, ← c .before .before .before .var-size .ensures, c .before .n2 .given .1)
+returns-2 c =
+    let z = c .before .before .before in
+    let d = z .before .before in
+    simp (← d .before .before .convert-var .ensures, d .dst .given .1, ← z .var-size .ensures, c .before .n2 .given .1)
 
 is-float-requires : tie.Need-is-float-requires
 is-float-requires c κs = search needs
 
 returns-3 : tie.Need-returns-3
 unfolding storeVar
-returns-3 c = simp (← c .before .before .before .before .before .before .before .before .before .before .convert-var .ensures, c .before .before .before .before .before .before .before .before .dst .given .1, ← c .before .before .before .before .before .before .var-size .ensures, c .before .before .before .before .size .given .1, ← c .before .is-float .ensures, c .if1 .taken)
+returns-3 c =
+    let y = c .before .before .before .before in
+    let z = y .before .before in
+    let d = z .before .before in
+    simp
+    (← d .before .before .convert-var .ensures, d .dst .given .1, ← z .var-size .ensures, y .size .given .1, ← c .before .is-float .ensures, c .if1 .taken)
 
 returns-4 : tie.Need-returns-4
 unfolding storeVar
-returns-4 c = simp (← c .before .before .before .before .before .before .before .before .before .before .convert-var .ensures, c .before .before .before .before .before .before .before .before .dst .given .1, ← c .before .before .before .before .before .before .var-size .ensures, c .before .before .before .before .size .given .1, ← c .before .is-float .ensures, c .if1 .left)
+returns-4 c =
+    let y = c .before .before .before .before in
+    let z = y .before .before in
+    let d = z .before .before in
+    simp
+    (← d .before .before .convert-var .ensures, d .dst .given .1, ← z .var-size .ensures, y .size .given .1, ← c .before .is-float .ensures, c .if1 .left)
 
 pub store-var-spec : {M : Type 1} → statement M
 store-var-spec =
