@@ -59,7 +59,7 @@ pub fn var_offsets(sheet: &[u8], n: u64, offsets: &mut [u64]) -> Number
 }
 
 // `PARAM_REGS` and `PARAM_FREGS`: the register of the parameter of rank `k` among those that are floats, or among those that are not.
-fn param_register(float: bool, k: u64) -> Register
+pub fn param_register(float: bool, k: u64) -> Register
     ensures { λ r. ⌜ r ≡ getD (registersOf float) k RAX ⌝ }
 {
     if float {
@@ -88,7 +88,7 @@ fn param_register(float: bool, k: u64) -> Register
 }
 
 // How many registers there are for them.
-fn registers(float: bool) -> u64
+pub fn registers(float: bool) -> u64
     ensures { λ r. ⌜ r ≡ length (registersOf float) ⌝ }
 {
     if float { 8 } else { 6 }
