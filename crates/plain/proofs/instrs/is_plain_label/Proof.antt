@@ -1,0 +1,15 @@
+use borrow.Author.Needs.{needs}
+use Rattle.plain.proofs.instrs.is_plain_label.Statement.{statement}
+use Rattle.plain.proofs.instrs.is_plain_label.Tie as tie
+
+mul-result : tie.Need-mul-result
+mul-result c = search needs
+
+element-copy-out-result : tie.Need-element-copy-out-result
+element-copy-out-result c = search needs
+
+returns : tie.Need-returns
+returns c = ?
+
+pub is-plain-label-spec : {M : Type 1} → statement M
+is-plain-label-spec = tie.close (tie.spec mul-result element-copy-out-result returns)

@@ -1,0 +1,12 @@
+-- What the plain test's answer says (01, "Also added: the plain test").
+use Prim.Native.Nat.{ℕ}
+use mathlib.Core.Path.{_≡_}
+use mathlib.Core.Bool.{true}
+use mathlib.Core.List.{List}
+use Rattle.machine.specs.Plain.{Plain, isFault}
+use Rattle.plain.specs.declared.Plainness.{Plainness}
+
+-- yes: no number is at fault; no: this number is. Which of those at fault is left open
+abbrev pub Says : List ℕ → List ℕ → Plainness → Type 0
+Says tables sheet Plainness.Yes = Plain tables sheet
+Says tables sheet (Plainness.No k) = isFault tables sheet k ≡ true
