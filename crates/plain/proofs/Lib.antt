@@ -1,3 +1,7 @@
 pub mod Rest
 pub mod Tests
 pub mod Sheet
+pub mod Turns
+pub mod Walk
+pub mod Counting
+pub mod Faults

@@ -4,9 +4,11 @@ use mathlib.Core.Path.{_≡_, refl, sym, ap, _∙_}
 use mathlib.Core.List.{List, [], _∷_}
 use native.Mathlib.Omega.{arith}
 use native.Mathlib.Nat.{mul-suc}
+use borrow.Author.Tests.{ne-eqb}
+use Rattle.cells.specs.Cells.{cellAt}
 use lib.ListN.{length, getD}
 use Rattle.ir.specs.declared.«Type».{«Type» as IrType}
-use Rattle.ir.specs.Function.{typeAt, typesAt, varsAt, linesAt}
+use Rattle.ir.specs.Function.{typeAt, typesAt, varsAt, argumentsAt, behind}
 
 pub types-length : (s : List ℕ) (n k : ℕ) → length (typesAt s n k) ≡ n
 unfolding typesAt
@@ -25,3 +27,15 @@ type-there s (suc n) k zero o h = let l : k ≡ k + 2 * 0 = omega arith in ap (�
 type-there s (suc n) k (suc i) o h =
     let l : k + 2 + 2 * i ≡ k + 2 * suc i = omega (arith, mul-suc 2 i) in
     type-there s n (k + 2) i o (omega arith) ∙ ap (λ (m : ℕ). typeAt s m) l
+
+pub behind-least : (s : List ℕ) (k : ℕ) → k + 13 ≤ behind s k
+unfolding behind
+behind-least s k = omega arith
+
+pub behind-call : (s : List ℕ) (k : ℕ) → cellAt s k ≡ 5 → behind s k ≡ k + 13 + 4 * cellAt s (k + 6)
+unfolding behind argumentsAt
+behind-call s k e = rw e
+
+pub behind-other : (s : List ℕ) (k : ℕ) → (cellAt s k ≡ 5 → ⊥) → behind s k ≡ k + 13
+unfolding behind argumentsAt
+behind-other s k h = rw (ne-eqb (cellAt s k) 5 h) (omega arith)

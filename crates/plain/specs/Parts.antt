@@ -1,10 +1,10 @@
 -- Parts of the plain test that one function of it decides (01, "Plain integer functions").
-use Prim.Native.Nat.{ℕ, suc, _+_, _<_}
+use Prim.Native.Nat.{ℕ, suc, _+_, _<_, _≤_}
 use mathlib.Core.Path.{_≡_}
 use mathlib.Core.Bool.{Bool, true, false, cond, not, _&&_, _||_}
 use mathlib.Core.List.{List, [], _∷_}
 use lib.Dec.{ltb, leb, eqb}
-use lib.ListN.{getD, set}
+use lib.ListN.{length, getD, set}
 use Rattle.cells.specs.declared.Cursor.{Cursor}
 use Rattle.layout.specs.declared.Checked.{Checked}
 use Rattle.layout.specs.Layout.{sheetCheck}
@@ -71,11 +71,12 @@ areNamed is = every (λ i. ltb (labelOf (i .instr)) 256) is
 
 -- how often each label stands in a body
 pub record Counts (body : List Line) (counts : List ℕ) : Type 0 where
+  pub long : length counts ≡ 256
   pub each : (l : ℕ) → l < 256 → getD counts l 0 ≡ labelCount l body
 
 -- there is room for more instructions
 pub record Few (counts : List ℕ) : Type 0 where
-  pub each : (l : ℕ) → l < 256 → getD counts l 0 < 4096
+  pub each : (l : ℕ) → l < 256 → getD counts l 0 ≤ 4096
 
 abbrev pub oneMore : Instr → List ℕ → List ℕ
 oneMore (Instr.Copy d x) counts = counts

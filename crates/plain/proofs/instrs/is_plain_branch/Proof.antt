@@ -1,3 +1,9 @@
+use mathlib.Core.Path.{_≡_, refl, sym, ap, _∙_}
+use lib.Dec.{leb}
+use Rattle.ir.specs.Function.{functionOf}
+use Rattle.plain.proofs.Tests.{two-passed, two-failed, pair-passed, pair-failed}
+use native.Mathlib.Omega.{arith}
+use Rattle.machine.specs.Plain.{isPlainInstr, isPlainOperand, isBool, isPlainCast, labelCount}
 use borrow.Author.Needs.{needs}
 use Rattle.plain.proofs.instrs.is_plain_branch.Statement.{statement}
 use Rattle.plain.proofs.instrs.is_plain_branch.Tie as tie
@@ -9,10 +15,19 @@ is-plain-jump-requires : tie.Need-is-plain-jump-requires
 is-plain-jump-requires c κs = search needs
 
 returns : tie.Need-returns
-returns c = ?
+unfolding isPlainInstr
+returns c =
+    let a = c .before .before .before .before .args in
+    let F = functionOf (a .sheet .now) in
+    c .is-plain-jump .ensures
+    ∙ sym (two-passed (isPlainOperand F (a .x)) (isBool (a .x)) (c .before .before .is-condition .ensures) (c .before .if1 .taken) (leb 1 (labelCount (a .l) (F .body))))
 
 returns-2 : tie.Need-returns-2
-returns-2 c = ?
+unfolding isPlainInstr
+returns-2 c =
+    let a = c .before .before .before .args in
+    let F = functionOf (a .sheet .now) in
+    sym (two-failed (isPlainOperand F (a .x)) (isBool (a .x)) (c .before .is-condition .ensures) (c .if1 .left) (leb 1 (labelCount (a .l) (F .body))))
 
 pub is-plain-branch-spec : {M : Type 1} → statement M
 is-plain-branch-spec =

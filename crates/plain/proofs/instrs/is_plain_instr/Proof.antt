@@ -1,3 +1,4 @@
+use Rattle.machine.specs.Plain.{isPlainInstr}
 use borrow.Author.Needs.{needs}
 use Rattle.plain.proofs.instrs.is_plain_instr.Statement.{statement}
 use Rattle.plain.proofs.instrs.is_plain_instr.Tie as tie
@@ -39,19 +40,19 @@ enum-known-instr-6 : tie.Need-enum-known-instr-6
 enum-known-instr-6 c = search needs
 
 is-plain-label-requires : tie.Need-is-plain-label-requires
-is-plain-label-requires c κs = ?
+is-plain-label-requires c κs = (c .before .before .before .before .pre .1 .0, rw (c .before .instr6 .given .1) at (c .before .before .before .before .pre .1 .1))
 
 enum-known-instr-7 : tie.Need-enum-known-instr-7
 enum-known-instr-7 c = search needs
 
 is-plain-jump-requires : tie.Need-is-plain-jump-requires
-is-plain-jump-requires c κs = ?
+is-plain-jump-requires c κs = (c .before .before .before .before .pre .1 .0, rw (c .before .instr7 .given .1) at (c .before .before .before .before .pre .1 .1))
 
 enum-known-instr-8 : tie.Need-enum-known-instr-8
 enum-known-instr-8 c = search needs
 
 is-plain-branch-requires : tie.Need-is-plain-branch-requires
-is-plain-branch-requires c κs = ?
+is-plain-branch-requires c κs = (c .before .before .before .before .pre .0, (c .before .before .before .before .pre .1 .0, rw (c .before .instr8 .given .1) at (c .before .before .before .before .pre .1 .1)))
 
 enum-known-instr-9 : tie.Need-enum-known-instr-9
 enum-known-instr-9 c = search needs
@@ -63,37 +64,43 @@ enum-told-2 : tie.Need-enum-told-2
 enum-told-2 c = search needs
 
 returns : tie.Need-returns
-returns c = ?
+unfolding isPlainInstr
+returns c = simp (c .before .before .instr .given .1, ← c .is-plain-move .ensures)
 
 returns-2 : tie.Need-returns-2
-returns-2 c = ?
+unfolding isPlainInstr
+returns-2 c = simp (c .before .before .instr2 .given .1, ← c .is-plain-move2 .ensures)
 
 returns-3 : tie.Need-returns-3
-returns-3 c = ?
+returns-3 c = rw (c .before .before .instr3 .given .1) (c .is-plain-two .ensures)
 
 returns-4 : tie.Need-returns-4
-returns-4 c = ?
+returns-4 c = rw (c .before .before .instr4 .given .1) (c .is-plain-conversion .ensures)
 
 returns-5 : tie.Need-returns-5
-returns-5 c = ?
+unfolding isPlainInstr
+returns-5 c = simp (c .before .before .instr5 .given .1, ← c .is-entry .ensures)
 
 returns-6 : tie.Need-returns-6
-returns-6 c = ?
+unfolding isPlainInstr
+returns-6 c = simp (c .enum-told .given .1)
 
 returns-7 : tie.Need-returns-7
-returns-7 c = ?
+returns-7 c = rw (c .before .before .instr6 .given .1) (c .is-plain-label .ensures)
 
 returns-8 : tie.Need-returns-8
-returns-8 c = ?
+returns-8 c = rw (c .before .before .instr7 .given .1) (c .is-plain-jump .ensures)
 
 returns-9 : tie.Need-returns-9
-returns-9 c = ?
+returns-9 c = rw (c .before .before .instr8 .given .1) (c .is-plain-branch .ensures)
 
 returns-10 : tie.Need-returns-10
-returns-10 c = ?
+unfolding isPlainInstr
+returns-10 c = simp (c .before .before .instr9 .given .1, ← c .is-plain-operand .ensures)
 
 returns-11 : tie.Need-returns-11
-returns-11 c = ?
+unfolding isPlainInstr
+returns-11 c = simp (c .enum-told2 .given .1)
 
 pub is-plain-instr-spec : {M : Type 1} → statement M
 is-plain-instr-spec =

@@ -1,3 +1,5 @@
+use native.Mathlib.Omega.{arith}
+use Rattle.machine.specs.Plain.{isPlainInstr, isPlainOperand, isBool, isPlainCast, labelCount}
 use borrow.Author.Needs.{needs}
 use Rattle.plain.proofs.instrs.is_plain_jump.Statement.{statement}
 use Rattle.plain.proofs.instrs.is_plain_jump.Tie as tie
@@ -9,7 +11,8 @@ element-copy-out-result : tie.Need-element-copy-out-result
 element-copy-out-result c = search needs
 
 returns : tie.Need-returns
-returns c = ?
+unfolding isPlainInstr
+returns c = simp (← c .before .pre .0 .each (c .before .args .l) (c .before .pre .1))
 
 pub is-plain-jump-spec : {M : Type 1} → statement M
 is-plain-jump-spec = tie.close (tie.spec mul-result element-copy-out-result returns)
