@@ -59,8 +59,8 @@ module _ {s : List ℕ} {left cell k : ℕ} (g : Testing s left cell k) (h : 0 <
         most = omega (arith, g .most);
         named = parts .1;
         is =
-          rw (add-one k) (sym (fault-on (functionOf s) k (lineAt s cell) (linesAt s (left - 1) (behind s cell)) e)
-          ∙ sym (ap (firstFault (functionOf s) k) (lines-more s left cell h)) ∙ g .is);
+            rw (add-one k) (sym (fault-on (functionOf s) k (lineAt s cell) (linesAt s (left - 1) (behind s cell)) e)
+            ∙ sym (ap (firstFault (functionOf s) k) (lines-more s left cell h)) ∙ g .is);
       }
 
   pub fault-found : isPlainInstr (functionOf s) (instrAt s cell) ≡ false → Plainness.No k ≡ firstFault (functionOf s) 1 (functionOf s .body)

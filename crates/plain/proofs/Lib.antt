@@ -5,3 +5,4 @@ pub mod Turns
 pub mod Walk
 pub mod Counting
 pub mod Faults
+pub mod Headed

@@ -9,16 +9,16 @@ module _ {S R : Type 0} (rep : ℕ → S → R) (whole : R) where
 
   module _ {left : ℕ} {x : S} (h : Left left x) where
     -- a turn goes on to the next state
-    pub goes-on : (y : S) → 0 < left → ((m : ℕ) → rep (suc m) x ≡ rep m y) → Left (left - 1) y
+    pub goes-on : (y : S) → 0 < left → rep (suc (left - 1)) x ≡ rep (left - 1) y → Left (left - 1) y
     goes-on y p e =
         let l : suc (left - 1) ≡ left = omega arith in
-        record { is = sym (e (left - 1)) ∙ ap (λ (k : ℕ). rep k x) l ∙ h .is }
+        record { is = sym e ∙ ap (λ (k : ℕ). rep k x) l ∙ h .is }
 
     -- a turn gives the answer
-    pub stops : {r : R} → 0 < left → ((m : ℕ) → rep (suc m) x ≡ r) → r ≡ whole
+    pub stops : {r : R} → 0 < left → rep (suc (left - 1)) x ≡ r → r ≡ whole
     stops p e =
         let l : suc (left - 1) ≡ left = omega arith in
-        sym (e (left - 1)) ∙ ap (λ (k : ℕ). rep k x) l ∙ h .is
+        sym e ∙ ap (λ (k : ℕ). rep k x) l ∙ h .is
 
     -- no turn is left
     pub ends : {r : R} → left ≤ 0 → rep 0 x ≡ r → r ≡ whole

@@ -34,7 +34,7 @@ unfolding every typesAt
 returns c =
     let l = c .before .before .before .before in
     let e : hasPlainCode (typeAt (c .before .before .before .before .before .before .args .sheet .now) (c .before .before .before .before .loop .cell)) ≡ false = sym (c .before .is-plain-code .ensures ∙ ap (λ (x : IrType). hasPlainCode x) (c .before .before .type-at .ensures)) ∙ not-true _ (c .if1 .taken) in
-    stops _ _ (l .loop .inv .0) (c .before .before .before .loop-test .taken) (λ m. rw e)
+    stops _ _ (l .loop .inv .0) (c .before .before .before .loop-test .taken) (rw e)
 
 add-cell : tie.Need-add-cell Inv-loop μ-loop
 add-cell c = omega (arith, c .before .before .before .before .loop .inv .1, c .before .before .before .loop-test .taken, c .before .before .before .before .before .before .good)
@@ -50,7 +50,7 @@ unfolding every typesAt
 loop-again c =
     let l = c .before .before .before .before in
     let e : hasPlainCode (typeAt (c .before .before .before .before .before .before .args .sheet .now) (c .before .before .before .before .loop .cell)) ≡ true = sym (c .before .is-plain-code .ensures ∙ ap (λ (x : IrType). hasPlainCode x) (c .before .before .type-at .ensures)) ∙ not-false _ (c .if1 .left) in
-    (goes-on _ _ (l .loop .inv .0) _ (c .before .before .before .loop-test .taken) (λ m. rw e), omega (arith, l .loop .inv .1, c .before .before .before .loop-test .taken))
+    (goes-on _ _ (l .loop .inv .0) _ (c .before .before .before .loop-test .taken) (rw e), omega (arith, l .loop .inv .1, c .before .before .before .loop-test .taken))
 
 returns-2 : tie.Need-returns-2 Inv-loop μ-loop
 unfolding every typesAt

@@ -33,8 +33,8 @@ returns c =
     let l = c .before .before .before .before in
     let a = l .before .before .args in
     let e : eqb (varAt (a .sheet .now) (l .loop .cell) .id) (a .x) ≡ true =
-        sym (ap (λ (p : VarId). eqb (p .id) (a .x)) (c .before .before .var-at .ensures)) ∙ eq-eqb _ _ (c .if1 .taken) in
-    stops _ _ (l .loop .inv .0) (c .before .before .before .loop-test .taken) (λ m. rw e)
+    sym (ap (λ (p : VarId). eqb (p .id) (a .x)) (c .before .before .var-at .ensures)) ∙ eq-eqb _ _ (c .if1 .taken) in
+    stops _ _ (l .loop .inv .0) (c .before .before .before .loop-test .taken) (rw e)
 
 add-cell : tie.Need-add-cell Inv-loop μ-loop
 add-cell c = omega (arith, c .before .before .before .before .loop .inv .1, c .before .before .before .loop-test .taken, c .before .before .before .before .before .before .good)
@@ -51,8 +51,8 @@ loop-again c =
     let l = c .before .before .before .before in
     let a = l .before .before .args in
     let e : eqb (varAt (a .sheet .now) (l .loop .cell) .id) (a .x) ≡ false =
-        sym (ap (λ (p : VarId). eqb (p .id) (a .x)) (c .before .before .var-at .ensures)) ∙ ne-eqb _ _ (c .if1 .left) in
-    (goes-on _ _ (l .loop .inv .0) _ (c .before .before .before .loop-test .taken) (λ m. rw e), omega (arith, l .loop .inv .1, c .before .before .before .loop-test .taken))
+    sym (ap (λ (p : VarId). eqb (p .id) (a .x)) (c .before .before .var-at .ensures)) ∙ ne-eqb _ _ (c .if1 .left) in
+    (goes-on _ _ (l .loop .inv .0) _ (c .before .before .before .loop-test .taken) (rw e), omega (arith, l .loop .inv .1, c .before .before .before .loop-test .taken))
 
 returns-2 : tie.Need-returns-2 Inv-loop μ-loop
 unfolding varsAt

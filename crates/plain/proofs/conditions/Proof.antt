@@ -1,0 +1,34 @@
+use Prim.Native.Nat.{ℕ}
+use Rattle.machine.specs.Plain.{labelCount}
+use Rattle.plain.specs.Parts.{verdict}
+use lib.ListN.{length-replicate, getD-replicate}
+use Rattle.plain.proofs.Walk.{has-params}
+use mathlib.Core.Path.{_≡_, refl, sym, ap, _∙_}
+use borrow.Author.Tests.{not-true, not-false}
+use native.Mathlib.Omega.{arith}
+use borrow.Author.Needs.{needs}
+use Rattle.plain.proofs.conditions.Statement.{statement}
+use Rattle.plain.proofs.conditions.Tie as tie
+
+is-plain-head-requires : tie.Need-is-plain-head-requires
+is-plain-head-requires c κs = has-params (c .before .pre .0)
+
+returns : tie.Need-returns
+unfolding verdict
+returns c = simp (← c .before .is-plain-head .ensures, not-true (c .before .is-plain-head .result) (c .if1 .taken))
+
+count-labels-requires : tie.Need-count-labels-requires
+unfolding labelCount
+count-labels-requires c κs = (c .before .before .before .before .pre .0, record { long = length-replicate {A = ℕ} 256 0; each = λ l h. getD-replicate {A = ℕ} 256 l 0 0 h })
+
+first-fault-requires : tie.Need-first-fault-requires
+first-fault-requires c κs = search needs
+
+returns-2 : tie.Need-returns-2
+unfolding verdict
+returns-2 c = simp (← c .before .before .before .before .before .is-plain-head .ensures, not-false (c .before .before .before .before .before .is-plain-head .result) (c .before .before .before .before .if1 .left), ← c .first-fault .ensures)
+
+pub conditions-spec : {M : Type 1} → statement M
+conditions-spec =
+    tie.close
+    (tie.spec is-plain-head-requires returns count-labels-requires first-fault-requires returns-2)
