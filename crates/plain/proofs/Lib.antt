@@ -6,3 +6,5 @@ pub mod Walk
 pub mod Counting
 pub mod Faults
 pub mod Headed
+pub mod Named
+pub mod Verdict
