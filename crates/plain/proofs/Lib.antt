@@ -8,3 +8,5 @@ pub mod Faults
 pub mod Headed
 pub mod Named
 pub mod Verdict
+pub mod Late
+pub mod Early

@@ -5,7 +5,7 @@ use mathlib.Core.Bool.{Bool, true, false, cond, not, _||_}
 use mathlib.Core.List.{List, [], _∷_}
 use native.Mathlib.Omega.{arith}
 use lib.Dec.{eqb}
-use borrow.Author.Tests.{eq-eqb}
+use borrow.Author.Tests.{eq-eqb, lt-ltb, le-ltb}
 use Rattle.cells.specs.Cells.{cellAt}
 use Rattle.cells.specs.declared.Cursor.{Cursor}
 use Rattle.layout.specs.declared.Checked.{Checked}
@@ -17,7 +17,10 @@ use Rattle.codegen.specs.Generation.{Outcome, accepted, refused, generate, chec
 use Rattle.machine.specs.Plain.{isPlainHead, isPlainInstr, isPlainLine, isPlainAt, isRefusedAt, isFault}
 use Rattle.plain.specs.declared.Plainness.{Plainness}
 use Rattle.plain.specs.Parts.{Laid, areNamed, firstFault, verdict}
-use Rattle.plain.specs.Answers.{Says}
+use Rattle.plain.specs.Answers.{Says, faultOf}
+use Rattle.machine.proofs.Accepted.{never}
+use Rattle.plain.proofs.Early.{sheet-refused, tables-refused}
+use Rattle.plain.proofs.Late.{refused-late}
 use Rattle.plain.proofs.Named.{accepted-named}
 
 yes-not-no : {A : Type 0} {k : ℕ} → Plainness.No k ≡ Plainness.Yes → A
@@ -115,3 +118,49 @@ module _ (t s : List ℕ) where
         pub answered : (r : Plainness) → r ≡ verdict (functionOf s) → Says t s r
         answered Plainness.Yes h = record { faultless = λ k. fault-is k ∙ rw (plain-everywhere (functionOf s) (sym h) k, e) }
         answered (Plainness.No k) h = fault-is k ∙ rw (fault-there (functionOf s) k (sym h))
+
+  -- ---- the whole lowering's answer
+
+  module _ (is : List Instruction) where
+    pub compiled-accepted : compiled t s ≡ accepted is →
+        (c : Cursor) × (tablesCheck t ≡ Checked.Behind c) × (d : Cursor) × (sheetCheck s ≡ Checked.Behind d) × (generate (tablesOf t) (functionOf s) ≡ accepted is)
+    unfolding compiled
+    compiled-accepted e = go (tablesCheck t) refl (sheetCheck s) refl e
+      where
+        go : (a : Checked) → tablesCheck t ≡ a → (b : Checked) → sheetCheck s ≡ b →
+            checked a (λ u. checked b (λ v. generate (tablesOf t) (functionOf s))) ≡ accepted is →
+            (c : Cursor) × (tablesCheck t ≡ Checked.Behind c) × (d : Cursor) × (sheetCheck s ≡ Checked.Behind d) × (generate (tablesOf t) (functionOf s) ≡ accepted is)
+        go (Checked.Behind c) p (Checked.Behind d) q e = (c, p, d, q, e)
+        go (Checked.Behind c) p (Checked.Refused n k) q e = absurd (never e)
+        go (Checked.Refused n k) p b q e = absurd (never e)
+
+    module _ (e : compiled t s ≡ accepted is) where
+      pub accepted-laid : Laid s
+      accepted-laid = let p = compiled-accepted e in record { end = p .2; is = p .3 }
+
+      pub accepted-labels : areNamed (functionOf s .body) ≡ true
+      accepted-labels = let p = compiled-accepted e in sheet-named (p .1) (p .3) is (p .4)
+
+      pub accepted-says : (r : Plainness) → r ≡ verdict (functionOf s) → Says t s r
+      accepted-says = let p = compiled-accepted e in answered (p .1) (p .3) is (p .4)
+
+  module _ {n place : ℕ} where
+    same-refusal : {m k : ℕ} → _≡_ {A = Outcome (List Instruction)} (refused m k) (refused n place) → m ≡ n
+    same-refusal e = cc
+
+    -- refusals 1 to 3 give 0, the others their place
+    pub refused-says : compiled t s ≡ refused n place → Says t s (Plainness.No (faultOf n place))
+    unfolding compiled
+    refused-says e = go (tablesCheck t) refl (sheetCheck s) refl e
+      where
+        early : n ≤ 3 → Says t s (Plainness.No 0) → Says t s (Plainness.No (faultOf n place))
+        early h x = rw (lt-ltb n 4 (omega arith)) x
+
+        late : 4 ≤ n → Says t s (Plainness.No place) → Says t s (Plainness.No (faultOf n place))
+        late h x = rw (le-ltb n 4 h) x
+
+        go : (a : Checked) → tablesCheck t ≡ a → (b : Checked) → sheetCheck s ≡ b →
+            checked a (λ u. checked b (λ v. generate (tablesOf t) (functionOf s))) ≡ refused n place → Says t s (Plainness.No (faultOf n place))
+        go (Checked.Refused m k) p b q e = let l : m ≡ n = same-refusal e in early (omega (arith, tables-refused t p)) (tables-fault p)
+        go (Checked.Behind c) p (Checked.Refused m k) q e = let l : m ≡ n = same-refusal e in early (omega (arith, sheet-refused s q)) (sheet-fault p q)
+        go (Checked.Behind c) p (Checked.Behind d) q e = late (refused-late (tablesOf t) (functionOf s) n place e) (refused-there p q n place e)

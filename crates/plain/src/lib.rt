@@ -11,6 +11,7 @@ use crate::head::is_plain_head;
 ghost use mathlib.Core.Path.{_≡_};
 ghost use mathlib.Core.Bool.{true};
 ghost use Rattle.ir.specs.Function.{functionOf};
+ghost use Rattle.plain.specs.Answers.{faultOf};
 ghost use Rattle.plain.specs.Parts.{areNamed, Laid, verdict};
 
 // Yes, or no with the number of some instruction at fault; 0 for variables, parameters, the return type or refusals 1 to 3.
@@ -31,4 +32,11 @@ fn conditions(sheet: &[u8]) -> Plainness
     let mut counts = [0u64; 256];
     count_labels(sheet, &mut counts);
     first_fault(sheet, &counts)
+}
+
+// The number at fault where the lowering refuses: 0 for refusals 1 to 3, else the refusal's place.
+fn fault_of(number: u64, place: u64) -> u64
+    ensures { λ r. ⌜ r ≡ faultOf number place ⌝ }
+{
+    if number < 4 { 0 } else { place }
 }
