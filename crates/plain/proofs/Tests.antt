@@ -1,9 +1,11 @@
 -- Tests one behind the other, the codes of a range, and the operations of a range.
 use Prim.Native.Nat.{ℕ, zero, suc, _+_, _-_, _≤_, _<_}
 use mathlib.Core.Path.{_≡_, refl, sym, ap, _∙_}
-use mathlib.Core.Bool.{Bool, true, false, _&&_, _||_}
+use mathlib.Core.Bool.{Bool, true, false, not, _&&_, _||_}
 use mathlib.Core.Logic.{⊎-elim}
-use lib.ListN.{List·getD-eq-default}
+use lib.ListN.{getD, List·getD-eq-default}
+use lib.Dec.{eqb, leb}
+use Rattle.ir.specs.declared.Instr.{Instr}
 use mathlib.Core.List.{List, [], _∷_}
 use native.Mathlib.Omega.{arith}
 use native.Mathlib.Nat.{eq-or-lt-of-le}
@@ -12,8 +14,8 @@ use Rattle.ir.specs.declared.VarId.{VarId}
 use Rattle.ir.specs.declared.Operand.{Operand}
 use Rattle.layout.proofs.Passed.{apart}
 use Rattle.ir.specs.Function.{Function, BinaryOp, binaryOp}
-use Rattle.machine.specs.Plain.{isPlainCode, isScalarVar, isPlainOperand, isBoolType, isPlainBinary}
-use Rattle.plain.specs.Parts.{isSame, isPlainPair}
+use Rattle.machine.specs.Plain.{isPlainCode, isUnsignedDest, isOneByte, isScalarVar, isPlainOperand, isBoolType, isPlainBinary, isPlainInstr}
+use Rattle.plain.specs.Parts.{isSame, isPlainPair, Counts}
 
 -- two tests in one answer, with a third behind them
 pub two-passed : (a b : Bool) {p : Bool} → p ≡ (a && b) → p ≡ true → (t : Bool) → (a && (b && t)) ≡ t
@@ -107,6 +109,20 @@ module _ (d : VarId) (x y : Operand) where
   pub additive : (k : ℕ) → 13 ≤ k → k ≤ 14 → isPlainBinary (binaryOp 2) d x y ≡ isPlainBinary (binaryOp k) d x y
   additive k l h = let e : 13 + (k - 13) ≡ k = omega arith in rw e at (adding (k - 13) (omega arith))
 
+  last : (isSame d x && (isUnsignedDest d && not (isOneByte d))) ≡ isPlainBinary (binaryOp 17) d x y
+  unfolding isPlainBinary binaryOp
+  last = refl
+
   -- 17 and whatever is no operation
-  pub remainder : (k : ℕ) → 17 ≤ k → isPlainBinary (binaryOp 17) d x y ≡ isPlainBinary (binaryOp k) d x y
-  remainder k l = ap (λ (o : BinaryOp). isPlainBinary o d x y) (beyond k l)
+  pub remainder : (k : ℕ) → 17 ≤ k → (isSame d x && (isUnsignedDest d && not (isOneByte d))) ≡ isPlainBinary (binaryOp k) d x y
+  remainder k l = last ∙ ap (λ (o : BinaryOp). isPlainBinary o d x y) (beyond k l)
+
+-- a label's count in the slice is its count in the body
+module _ (F : Function) (counts : List ℕ) (h : Counts (F .body) counts) (l : ℕ) (small : l < 256) where
+  pub once-is : eqb (getD counts l 0) 1 ≡ isPlainInstr F (Instr.Label l)
+  unfolding isPlainInstr
+  once-is = rw (h .each l small)
+
+  pub stands-is : leb 1 (getD counts l 0) ≡ isPlainInstr F (Instr.Jump l)
+  unfolding isPlainInstr
+  stands-is = rw (h .each l small)

@@ -14,12 +14,15 @@ use ir::Instr;
 use ir::Operand;
 use ir::VarId;
 ghost use mathlib.Core.Path.{_≡_};
+ghost use mathlib.Core.Bool.{not, _&&_};
 ghost use Prim.Native.Nat.{_≤_, _<_};
+ghost use lib.Dec.{eqb, leb};
+ghost use lib.ListN.{getD};
 ghost use Rattle.cells.specs.Cells.{cells};
 ghost use Rattle.ir.specs.Function.{functionOf, paramsFrom, binaryOp};
 ghost use Rattle.machine.specs.Steps.{width};
-ghost use Rattle.machine.specs.Plain.{isPlainBinary, isPlainCast, isPlainInstr};
-ghost use Rattle.plain.specs.Parts.{isPlainMove, isPlainPair, isWide, isCondition, labelOf, Counts};
+ghost use Rattle.machine.specs.Plain.{isUnsignedDest, isOneByte, isPlainBinary, isPlainCast, isPlainInstr};
+ghost use Rattle.plain.specs.Parts.{isSame, isPlainMove, isPlainPair, isWide, isCondition, labelOf, Counts};
 
 // BitOr, BitXor, BitAnd, Add and Sub: a long constant as right has four bytes.
 fn is_plain_sum(d: VarId, x: Operand, y: Operand) -> bool
@@ -32,8 +35,8 @@ fn is_plain_sum(d: VarId, x: Operand, y: Operand) -> bool
     }
 }
 
-fn is_plain_mul(d: VarId, x: Operand, y: Operand) -> bool
-    ensures { λ r. ⌜ r ≡ isPlainBinary (binaryOp 15) d x y ⌝ }
+fn is_plain_mul(d: VarId, x: Operand) -> bool
+    ensures { λ r. ⌜ r ≡ (isSame d x && not (isOneByte d)) ⌝ }
 {
     if is_same(d, x) {
         !is_one_byte(d)
@@ -42,8 +45,8 @@ fn is_plain_mul(d: VarId, x: Operand, y: Operand) -> bool
     }
 }
 
-fn is_plain_div(d: VarId, x: Operand, y: Operand) -> bool
-    ensures { λ r. ⌜ r ≡ isPlainBinary (binaryOp 16) d x y ⌝ }
+fn is_plain_div(d: VarId, x: Operand) -> bool
+    ensures { λ r. ⌜ r ≡ (isSame d x && isUnsignedDest d) ⌝ }
 {
     if is_same(d, x) {
         is_unsigned_dest(d)
@@ -52,10 +55,10 @@ fn is_plain_div(d: VarId, x: Operand, y: Operand) -> bool
     }
 }
 
-fn is_plain_rem(d: VarId, x: Operand, y: Operand) -> bool
-    ensures { λ r. ⌜ r ≡ isPlainBinary (binaryOp 17) d x y ⌝ }
+fn is_plain_rem(d: VarId, x: Operand) -> bool
+    ensures { λ r. ⌜ r ≡ (isSame d x && (isUnsignedDest d && not (isOneByte d))) ⌝ }
 {
-    if is_plain_div(d, x, y) {
+    if is_plain_div(d, x) {
         !is_one_byte(d)
     } else {
         false
@@ -74,9 +77,9 @@ fn is_plain_binary(op: u64, d: VarId, x: Operand, y: Operand) -> bool
         5..=10 => is_bool_type(ty),
         11..=12 => is_same(d, x),
         13..=14 => is_plain_sum(d, x, y),
-        15 => is_plain_mul(d, x, y),
-        16 => is_plain_div(d, x, y),
-        _ => is_plain_rem(d, x, y),
+        15 => is_plain_mul(d, x),
+        16 => is_plain_div(d, x),
+        _ => is_plain_rem(d, x),
     }
 }
 
@@ -165,21 +168,19 @@ fn is_plain_conversion(sheet: &[u8], d: VarId, x: Operand) -> bool
     }
 }
 
-// A label stands once.
-fn is_plain_label(sheet: &[u8], counts: &[u64; 256], l: u64) -> bool
-    requires { ⌜ Counts (functionOf (now sheet) .body) (now counts) ⌝ }
+// The label `l` stands once.
+fn is_once(counts: &[u64; 256], l: u64) -> bool
     requires { ⌜ l < 256 ⌝ }
-    ensures { λ r. ⌜ r ≡ isPlainInstr (functionOf (now (sheet .entry))) (Instr.Label l) ⌝ }
+    ensures { λ r. ⌜ r ≡ eqb (getD (now (counts .entry)) l 0) 1 ⌝ }
 {
     let k = l as usize;
     counts[k] == 1
 }
 
-// A label that is jumped to stands.
-fn is_plain_jump(sheet: &[u8], counts: &[u64; 256], l: u64) -> bool
-    requires { ⌜ Counts (functionOf (now sheet) .body) (now counts) ⌝ }
+// The label `l` stands.
+fn stands(counts: &[u64; 256], l: u64) -> bool
     requires { ⌜ l < 256 ⌝ }
-    ensures { λ r. ⌜ r ≡ isPlainInstr (functionOf (now (sheet .entry))) (Instr.Jump l) ⌝ }
+    ensures { λ r. ⌜ r ≡ leb 1 (getD (now (counts .entry)) l 0) ⌝ }
 {
     let k = l as usize;
     1 <= counts[k]
@@ -204,7 +205,7 @@ fn is_plain_branch(sheet: &[u8], counts: &[u64; 256], x: Operand, l: u64) -> boo
     ensures { λ r. ⌜ r ≡ isPlainInstr (functionOf (now (sheet .entry))) (Instr.JumpIfNot x l) ⌝ }
 {
     if is_condition(sheet, x) {
-        is_plain_jump(sheet, counts, l)
+        stands(counts, l)
     } else {
         false
     }
@@ -233,8 +234,8 @@ pub fn is_plain_instr(sheet: &[u8], counts: &[u64; 256], instr: Instr) -> bool
             symbol: _,
             count: _,
         } => false,
-        Instr::Label(l) => is_plain_label(sheet, counts, l),
-        Instr::Jump(l) => is_plain_jump(sheet, counts, l),
+        Instr::Label(l) => is_once(counts, l),
+        Instr::Jump(l) => stands(counts, l),
         Instr::JumpIfNot { cond, target } => is_plain_branch(sheet, counts, cond, target),
         Instr::Return(x) => is_plain_operand(sheet, x),
         Instr::Comment => true,

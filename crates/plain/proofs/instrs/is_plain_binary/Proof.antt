@@ -1,3 +1,5 @@
+use Rattle.machine.specs.Plain.{isPlainBinary}
+use Rattle.ir.specs.Function.{binaryOp}
 use native.Mathlib.Omega.{arith}
 use mathlib.Core.Path.{_≡_, sym, ap, _∙_}
 use Rattle.plain.proofs.Tests.{two-passed, two-failed, pair-passed, pair-failed, or-false, code-integer, code-other, code-none, code-float, code-high, logical, bitwise, comparison, shift, additive, remainder}
@@ -27,9 +29,11 @@ is-plain-rem-requires : tie.Need-is-plain-rem-requires
 is-plain-rem-requires c κs = search needs
 
 returns : tie.Need-returns
+unfolding isPlainBinary binaryOp
 returns c = simp (c .before .match .keys1, ← c .is-plain-mul .ensures)
 
 returns-2 : tie.Need-returns-2
+unfolding isPlainBinary binaryOp
 returns-2 c = simp (c .before .match .keys2, ← c .is-plain-div .ensures)
 
 returns-3 : tie.Need-returns-3

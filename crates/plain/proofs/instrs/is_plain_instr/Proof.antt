@@ -1,3 +1,6 @@
+use Rattle.plain.proofs.Tests.{once-is, stands-is}
+use Rattle.ir.specs.Function.{functionOf}
+use mathlib.Core.Path.{_≡_, refl, sym, ap, _∙_}
 use Rattle.machine.specs.Plain.{isPlainInstr}
 use borrow.Author.Needs.{needs}
 use Rattle.plain.proofs.instrs.is_plain_instr.Statement.{statement}
@@ -39,14 +42,14 @@ enum-told c = search needs
 enum-known-instr-6 : tie.Need-enum-known-instr-6
 enum-known-instr-6 c = search needs
 
-is-plain-label-requires : tie.Need-is-plain-label-requires
-is-plain-label-requires c κs = (c .before .before .before .before .pre .1 .0, rw (c .before .instr6 .given .1) at (c .before .before .before .before .pre .1 .1))
+is-once-requires : tie.Need-is-once-requires
+is-once-requires c κs = rw (c .before .instr6 .given .1) at (c .before .before .before .before .pre .1 .1)
 
 enum-known-instr-7 : tie.Need-enum-known-instr-7
 enum-known-instr-7 c = search needs
 
-is-plain-jump-requires : tie.Need-is-plain-jump-requires
-is-plain-jump-requires c κs = (c .before .before .before .before .pre .1 .0, rw (c .before .instr7 .given .1) at (c .before .before .before .before .pre .1 .1))
+stands-requires : tie.Need-stands-requires
+stands-requires c κs = rw (c .before .instr7 .given .1) at (c .before .before .before .before .pre .1 .1)
 
 enum-known-instr-8 : tie.Need-enum-known-instr-8
 enum-known-instr-8 c = search needs
@@ -86,10 +89,16 @@ unfolding isPlainInstr
 returns-6 c = simp (c .enum-told .given .1)
 
 returns-7 : tie.Need-returns-7
-returns-7 c = rw (c .before .before .instr6 .given .1) (c .is-plain-label .ensures)
+returns-7 c =
+    let p = c .before .before .before .before .before in
+    let e = c .before .before .instr6 .given .1 in
+    rw e (c .is-once .ensures ∙ once-is (functionOf (p .args .sheet .now)) (p .args .counts .now) (p .pre .1 .0) _ (rw e at (p .pre .1 .1)))
 
 returns-8 : tie.Need-returns-8
-returns-8 c = rw (c .before .before .instr7 .given .1) (c .is-plain-jump .ensures)
+returns-8 c =
+    let p = c .before .before .before .before .before in
+    let e = c .before .before .instr7 .given .1 in
+    rw e (c .stands .ensures ∙ stands-is (functionOf (p .args .sheet .now)) (p .args .counts .now) (p .pre .1 .0) _ (rw e at (p .pre .1 .1)))
 
 returns-9 : tie.Need-returns-9
 returns-9 c = rw (c .before .before .instr8 .given .1) (c .is-plain-branch .ensures)
@@ -118,9 +127,9 @@ is-plain-instr-spec =
     is-entry-requires
     enum-told
     enum-known-instr-6
-    is-plain-label-requires
+    is-once-requires
     enum-known-instr-7
-    is-plain-jump-requires
+    stands-requires
     enum-known-instr-8
     is-plain-branch-requires
     enum-known-instr-9
