@@ -9,7 +9,6 @@ use lib.ListN.{length, getD}
 use Rattle.ir.specs.declared.«Type».{«Type» as IrType}
 use Rattle.ir.specs.declared.VarId.{VarId}
 use Rattle.ir.specs.declared.Operand.{Operand as IrOp}
-use Rattle.ir.specs.declared.UnaryOp.{UnaryOp as IrUnary}
 use Rattle.ir.specs.declared.Dest.{Dest}
 use Rattle.ir.specs.declared.Instr.{Instr}
 use Rattle.ir.specs.Types as types
@@ -24,11 +23,11 @@ use Rattle.x86.specs.declared.register.Register.{Register}
 use Rattle.x86.specs.Registers.{RAX}
 use Rattle.codegen.specs.Context.{Context, contextOf, displacement, stringAt, floatAt, floatShort, labelAt}
 use Rattle.codegen.specs.Utils.{sizeFrom, varSize, convertVar, convertOperand, loadString, loadValue, loadOperand}
-use Rattle.codegen.specs.Instructions.{Source, widened, converted, extended, operandKind, isCopy, floating, paramRegs, paramFregs, generateReturn, generateCopy, castOperand, castBetween, generateCast, generateZero, loadArgument, loadArguments, storeResult, generateCall, generateJmpIfNot, generateLabel, generateJump}
+use Rattle.codegen.specs.Instructions.{Source, widened, converted, operandKind, isCopy, floating, paramRegs, paramFregs, generateReturn, generateCopy, castOperand, castBetween, generateCast, generateZero, loadArgument, loadArguments, storeResult, generateCall, generateJmpIfNot, generateLabel, generateJump}
 use Rattle.codegen.specs.Arithmetic.{simpleOperation, floatOperation, twoLoads, division, multiplication, shift, isSwapped, compared, floatComparison, comparison, floatBinary, integerBinary, generateBinary, generateUnary}
 use Rattle.codegen.specs.Frame.{haveWidths, varOffsets, registersOf, storeParams, frame, funcPrologue}
 use Rattle.codegen.specs.Generation as lowering
-use Rattle.codegen.specs.Generation.{Outcome, accepted, refused, at, generateInstr, generateInstruction, generateBody, generate}
+use Rattle.codegen.specs.Generation.{Outcome, accepted, refused, at, generateInstr, generateBody, generate}
 
 -- ---- along the binds
 

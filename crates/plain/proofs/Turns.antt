@@ -1,6 +1,6 @@
 -- A loop with `left` turns to go: what is left to do, from the state that it has come to, gives what the whole gives.
 use Prim.Native.Nat.{ℕ, suc, _-_, _≤_, _<_}
-use mathlib.Core.Path.{_≡_, refl, sym, ap, _∙_}
+use mathlib.Core.Path.{_≡_, sym, ap, _∙_}
 use native.Mathlib.Omega.{arith}
 
 module _ {S R : Type 0} (rep : ℕ → S → R) (whole : R) where

@@ -1,12 +1,10 @@
 -- What the answer on an accepted function says of every number, and what a refusal says.
 use Prim.Native.Nat.{ℕ, zero, suc, _+_, _≤_}
-use mathlib.Core.Path.{_≡_, refl, sym, ap, _∙_}
+use mathlib.Core.Path.{_≡_, refl, sym, _∙_}
 use mathlib.Core.Bool.{Bool, true, false, cond, not, _||_}
 use mathlib.Core.List.{List, [], _∷_}
 use native.Mathlib.Omega.{arith}
-use lib.Dec.{eqb}
 use borrow.Author.Tests.{eq-eqb, lt-ltb, le-ltb}
-use Rattle.cells.specs.Cells.{cellAt}
 use Rattle.cells.specs.declared.Cursor.{Cursor}
 use Rattle.layout.specs.declared.Checked.{Checked}
 use Rattle.layout.specs.Layout.{tablesCheck, sheetCheck}

@@ -1,7 +1,7 @@
 -- The body of a sheet whose layout is right, instruction by instruction.
-use Prim.Native.Nat.{ℕ, zero, suc, _+_, _*_, _-_, _≤_, _<_}
-use mathlib.Core.Path.{_≡_, refl, sym, ap, _∙_}
-use mathlib.Core.List.{List, [], _∷_}
+use Prim.Native.Nat.{ℕ, zero, suc, _+_, _-_, _≤_, _<_}
+use mathlib.Core.Path.{_≡_, refl, ap}
+use mathlib.Core.List.{List, _∷_}
 use native.Mathlib.Omega.{arith}
 use lib.ListN.{length}
 use Rattle.cells.specs.Cells.{cells, cellAt}
@@ -9,7 +9,7 @@ use Rattle.cells.specs.declared.Cursor.{Cursor}
 use Rattle.layout.specs.declared.Checked.{Checked}
 use Rattle.layout.specs.Layout.{cursor, instrsCheck}
 use Rattle.layout.proofs.Laws.{Right, sheet-right, types-run, vars-run, instr-right, instrs-more}
-use Rattle.ir.specs.Function.{Line, lineAt, linesAt, behind, paramsFrom, bodyFrom}
+use Rattle.ir.specs.Function.{lineAt, linesAt, behind, paramsFrom, bodyFrom}
 use Rattle.plain.specs.Parts.{Laid}
 
 -- ---- the sheet

@@ -3,9 +3,7 @@ use Rattle.machine.specs.Plain.{labelCount}
 use Rattle.plain.specs.Parts.{verdict}
 use lib.ListN.{length-replicate, getD-replicate}
 use Rattle.plain.proofs.Walk.{has-params}
-use mathlib.Core.Path.{_≡_, refl, sym, ap, _∙_}
 use borrow.Author.Tests.{not-true, not-false}
-use native.Mathlib.Omega.{arith}
 use borrow.Author.Needs.{needs}
 use Rattle.plain.proofs.conditions.Statement.{statement}
 use Rattle.plain.proofs.conditions.Tie as tie

@@ -1,10 +1,6 @@
 use Rattle.plain.proofs.Sheet.{behind-least, behind-call, behind-other}
-use Rattle.ir.specs.Function.{behind}
-use Rattle.cells.specs.Cells.{cells, cellAt}
-use Prim.Native.Nat.{ℕ, _≤_, _+_, _*_}
-use mathlib.Core.Path.{_≡_, refl, sym, ap, _∙_}
+use mathlib.Core.Path.{sym, _∙_}
 use native.Mathlib.Omega.{arith}
-use borrow.Author.Needs.{needs}
 use Rattle.plain.proofs.body.behind.Statement.{statement}
 use Rattle.plain.proofs.body.behind.Tie as tie
 

@@ -1,8 +1,6 @@
-use Rattle.plain.proofs.Walk.{has-header, has-types, has-params, has-few, walk-here}
+use Rattle.plain.proofs.Walk.{has-header, has-params, walk-here}
 use Rattle.plain.proofs.Counting.{Counting, none-counted, room-left, one-counted, all-counted}
-use mathlib.Core.Path.{_≡_, refl, sym, ap, _∙_}
 use native.Mathlib.Omega.{arith}
-use borrow.Author.Needs.{needs}
 use Rattle.plain.proofs.body.count_labels.Statement.{statement}
 use Rattle.plain.proofs.body.count_labels.Tie as tie
 

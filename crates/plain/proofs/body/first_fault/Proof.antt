@@ -1,13 +1,11 @@
-use Rattle.plain.specs.Parts.{labelOf}
 use borrow.Author.Tests.{not-true, not-false}
 use Rattle.machine.specs.Plain.{isPlainInstr}
 use Rattle.ir.specs.declared.Instr.{Instr}
 use Rattle.ir.specs.Function.{functionOf}
-use Rattle.plain.proofs.Walk.{has-header, has-types, has-params, has-few, walk-here}
+use Rattle.plain.proofs.Walk.{has-header, has-types, has-params, walk-here}
 use Rattle.plain.proofs.Faults.{Testing, none-tested, label-small, one-tested, fault-found, all-tested}
-use mathlib.Core.Path.{_≡_, refl, sym, ap, _∙_}
+use mathlib.Core.Path.{sym, ap, _∙_}
 use native.Mathlib.Omega.{arith}
-use borrow.Author.Needs.{needs}
 use Rattle.plain.proofs.body.first_fault.Statement.{statement}
 use Rattle.plain.proofs.body.first_fault.Tie as tie
 

@@ -8,7 +8,6 @@ use Rattle.plain.proofs.Turns.{Left, goes-on, stops, ends}
 use mathlib.Core.Path.{_≡_, refl, sym, ap, _∙_}
 use borrow.Author.Tests.{not-true, not-false}
 use native.Mathlib.Omega.{arith}
-use borrow.Author.Needs.{needs}
 use Rattle.plain.proofs.head.are_distinct.Statement.{statement}
 use Rattle.plain.proofs.head.are_distinct.Tie as tie
 

@@ -1,10 +1,9 @@
 use borrow.Author.Tests.{not-true, not-false}
 use mathlib.Core.Bool.{true, false}
 use Rattle.ir.specs.declared.«Type».{«Type» as IrType}
-use Rattle.ir.specs.declared.VarId.{VarId}
 use Rattle.plain.specs.Parts.{hasPlainCode}
-use Rattle.machine.specs.Plain.{every, isPlainCode, isScalarVar, isAbsent, areDistinct}
-use Rattle.ir.specs.Function.{functionOf, typesAt, varsAt, typeAt, varAt}
+use Rattle.machine.specs.Plain.{every}
+use Rattle.ir.specs.Function.{typesAt, typeAt}
 use Rattle.cells.specs.Cells.{cells}
 use Prim.Native.Nat.{ℕ, _≤_, _+_, _*_}
 use Rattle.plain.proofs.Turns.{Left, goes-on, stops, ends}

@@ -1,17 +1,14 @@
 use lib.Dec.{eqb}
-use borrow.Author.Tests.{ne-eqb, eq-eqb, lt-ltb, le-ltb, le-leb, lt-leb}
+use borrow.Author.Tests.{ne-eqb, eq-eqb}
 use mathlib.Core.Bool.{true, false}
-use Rattle.ir.specs.declared.«Type».{«Type» as IrType}
 use Rattle.ir.specs.declared.VarId.{VarId}
-use Rattle.plain.specs.Parts.{hasPlainCode}
-use Rattle.machine.specs.Plain.{every, isPlainCode, isScalarVar, isAbsent, areDistinct}
-use Rattle.ir.specs.Function.{functionOf, typesAt, varsAt, typeAt, varAt}
+use Rattle.machine.specs.Plain.{isAbsent}
+use Rattle.ir.specs.Function.{varsAt, varAt}
 use Rattle.cells.specs.Cells.{cells}
 use Prim.Native.Nat.{ℕ, _≤_, _+_, _*_}
 use Rattle.plain.proofs.Turns.{Left, goes-on, stops, ends}
 use mathlib.Core.Path.{_≡_, refl, sym, ap, _∙_}
 use native.Mathlib.Omega.{arith}
-use borrow.Author.Needs.{needs}
 use Rattle.plain.proofs.head.is_absent.Statement.{statement}
 use Rattle.plain.proofs.head.is_absent.Tie as tie
 

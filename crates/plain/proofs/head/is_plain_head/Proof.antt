@@ -1,7 +1,7 @@
 use Rattle.machine.specs.Plain.{isPlainReturn}
 use Rattle.ir.specs.declared.«Type».{«Type» as IrType}
 use Rattle.plain.proofs.Headed.{types-fault, return-fault, count-fault, distinct-fault, head-last}
-use mathlib.Core.Path.{_≡_, refl, sym, ap, _∙_}
+use mathlib.Core.Path.{sym, ap, _∙_}
 use borrow.Author.Tests.{not-true, not-false}
 use native.Mathlib.Omega.{arith}
 use borrow.Author.Needs.{needs}

@@ -1,8 +1,8 @@
 use Rattle.machine.specs.Plain.{isPlainBinary}
 use Rattle.ir.specs.Function.{binaryOp}
 use native.Mathlib.Omega.{arith}
-use mathlib.Core.Path.{_≡_, sym, ap, _∙_}
-use Rattle.plain.proofs.Tests.{two-passed, two-failed, pair-passed, pair-failed, or-false, code-integer, code-other, code-none, code-float, code-high, logical, bitwise, comparison, shift, additive, remainder}
+use mathlib.Core.Path.{_∙_}
+use Rattle.plain.proofs.Tests.{logical, bitwise, comparison, shift, additive, remainder}
 use borrow.Author.Needs.{needs}
 use Rattle.plain.proofs.instrs.is_plain_binary.Statement.{statement}
 use Rattle.plain.proofs.instrs.is_plain_binary.Tie as tie

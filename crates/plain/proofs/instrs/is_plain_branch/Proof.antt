@@ -2,7 +2,7 @@ use lib.Dec.{leb}
 use Rattle.plain.proofs.Tests.{two-passed, two-failed, stands-is}
 use Rattle.machine.specs.Plain.{isPlainInstr, isPlainOperand, isBool, labelCount}
 use Rattle.ir.specs.Function.{functionOf}
-use mathlib.Core.Path.{_≡_, refl, sym, ap, _∙_}
+use mathlib.Core.Path.{sym, _∙_}
 use borrow.Author.Needs.{needs}
 use Rattle.plain.proofs.instrs.is_plain_branch.Statement.{statement}
 use Rattle.plain.proofs.instrs.is_plain_branch.Tie as tie

@@ -1,9 +1,9 @@
 use Rattle.ir.specs.Types.{bytes}
 use lib.Dec.{leb}
 use mathlib.Core.Bool.{true, false}
-use mathlib.Core.Path.{_≡_, sym, ap, _∙_}
+use mathlib.Core.Path.{_≡_}
 use native.Mathlib.Omega.{arith}
-use borrow.Author.Tests.{ne-eqb, eq-eqb, lt-ltb, le-ltb, le-leb, lt-leb}
+use borrow.Author.Tests.{le-leb, lt-leb}
 use borrow.Author.Needs.{needs}
 use Rattle.plain.proofs.instrs.is_plain_cast.Statement.{statement}
 use Rattle.plain.proofs.instrs.is_plain_cast.Tie as tie

@@ -1,8 +1,7 @@
-use mathlib.Core.Path.{_≡_, refl, sym, ap, _∙_}
+use mathlib.Core.Path.{sym, _∙_}
 use Rattle.ir.specs.Function.{functionOf}
-use Rattle.plain.proofs.Tests.{two-passed, two-failed, pair-passed, pair-failed}
-use native.Mathlib.Omega.{arith}
-use Rattle.machine.specs.Plain.{isPlainInstr, isPlainOperand, isBool, isPlainCast, labelCount}
+use Rattle.plain.proofs.Tests.{pair-passed, pair-failed}
+use Rattle.machine.specs.Plain.{isPlainInstr, isPlainCast}
 use borrow.Author.Needs.{needs}
 use Rattle.plain.proofs.instrs.is_plain_conversion.Statement.{statement}
 use Rattle.plain.proofs.instrs.is_plain_conversion.Tie as tie

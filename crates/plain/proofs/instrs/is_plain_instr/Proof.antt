@@ -1,6 +1,6 @@
 use Rattle.plain.proofs.Tests.{once-is, stands-is}
 use Rattle.ir.specs.Function.{functionOf}
-use mathlib.Core.Path.{_≡_, refl, sym, ap, _∙_}
+use mathlib.Core.Path.{_∙_}
 use Rattle.machine.specs.Plain.{isPlainInstr}
 use borrow.Author.Needs.{needs}
 use Rattle.plain.proofs.instrs.is_plain_instr.Statement.{statement}

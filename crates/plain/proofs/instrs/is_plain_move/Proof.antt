@@ -1,7 +1,7 @@
-use Rattle.plain.specs.Parts.{isSame, isWide}
-use Rattle.ir.specs.Function.{functionOf, binaryOp}
-use mathlib.Core.Path.{_≡_, sym, ap, _∙_}
-use Rattle.plain.proofs.Tests.{two-passed, two-failed, pair-passed, pair-failed, or-false, code-integer, code-other, code-none, code-float, code-high, logical, bitwise, comparison, shift, additive, remainder}
+use Rattle.plain.specs.Parts.{isSame}
+use Rattle.ir.specs.Function.{functionOf}
+use mathlib.Core.Path.{sym, _∙_}
+use Rattle.plain.proofs.Tests.{pair-passed, pair-failed}
 use borrow.Author.Needs.{needs}
 use Rattle.plain.proofs.instrs.is_plain_move.Statement.{statement}
 use Rattle.plain.proofs.instrs.is_plain_move.Tie as tie

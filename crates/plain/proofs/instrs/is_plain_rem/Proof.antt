@@ -1,9 +1,9 @@
 use Rattle.ir.specs.Function.{binaryOp}
-use Rattle.plain.specs.Parts.{isSame, isWide}
-use mathlib.Core.Bool.{Bool, not, _&&_}
-use Rattle.machine.specs.Plain.{isPlainBinary, isPlainInstr, isUnsignedDest, isOneByte, isPlainCast, isPlainOperand}
-use mathlib.Core.Path.{_≡_, sym, ap, _∙_}
-use Rattle.plain.proofs.Tests.{two-passed, two-failed, pair-passed, pair-failed, or-false, code-integer, code-other, code-none, code-float, code-high, logical, bitwise, comparison, shift, additive, remainder}
+use Rattle.plain.specs.Parts.{isSame}
+use mathlib.Core.Bool.{not}
+use Rattle.machine.specs.Plain.{isPlainBinary, isUnsignedDest, isOneByte}
+use mathlib.Core.Path.{sym, ap, _∙_}
+use Rattle.plain.proofs.Tests.{two-passed, two-failed}
 use borrow.Author.Needs.{needs}
 use Rattle.plain.proofs.instrs.is_plain_rem.Statement.{statement}
 use Rattle.plain.proofs.instrs.is_plain_rem.Tie as tie

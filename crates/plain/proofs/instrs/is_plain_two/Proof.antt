@@ -1,11 +1,10 @@
-use borrow.Author.Tests.{ne-eqb, eq-eqb, lt-ltb, le-ltb, le-leb, lt-leb}
-use Rattle.machine.specs.Plain.{isPlainBinary, isPlainInstr, isUnsignedDest, isOneByte, isPlainCast, isPlainOperand}
+use borrow.Author.Tests.{ne-eqb, eq-eqb}
+use Rattle.machine.specs.Plain.{isPlainBinary, isPlainInstr, isPlainOperand}
 use Rattle.machine.specs.Steps.{width}
 use lib.Dec.{eqb}
-use mathlib.Core.Bool.{Bool, not, _&&_}
+use mathlib.Core.Bool.{Bool, _&&_}
 use Rattle.ir.specs.Function.{functionOf, binaryOp}
-use mathlib.Core.Path.{_≡_, sym, ap, _∙_}
-use Rattle.plain.proofs.Tests.{two-passed, two-failed, pair-passed, pair-failed, or-false, code-integer, code-other, code-none, code-float, code-high, logical, bitwise, comparison, shift, additive, remainder}
+use Rattle.plain.proofs.Tests.{pair-passed, pair-failed}
 use borrow.Author.Needs.{needs}
 use Rattle.plain.proofs.instrs.is_plain_two.Statement.{statement}
 use Rattle.plain.proofs.instrs.is_plain_two.Tie as tie

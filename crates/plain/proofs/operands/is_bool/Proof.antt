@@ -1,4 +1,4 @@
-use Rattle.plain.proofs.Rest.{no-constant, no-var, no-int, no-bool, no-width}
+use Rattle.plain.proofs.Rest.{no-bool}
 use borrow.Author.Needs.{needs}
 use Rattle.plain.proofs.operands.is_bool.Statement.{statement}
 use Rattle.plain.proofs.operands.is_bool.Tie as tie

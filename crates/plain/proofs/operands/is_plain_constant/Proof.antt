@@ -1,4 +1,4 @@
-use Rattle.plain.proofs.Rest.{no-constant, no-var, no-int, no-bool, no-width}
+use Rattle.plain.proofs.Rest.{no-constant}
 use borrow.Author.Needs.{needs}
 use Rattle.plain.proofs.operands.is_plain_constant.Statement.{statement}
 use Rattle.plain.proofs.operands.is_plain_constant.Tie as tie

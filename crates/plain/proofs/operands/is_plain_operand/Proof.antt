@@ -1,5 +1,5 @@
 use mathlib.Core.Path.{_∙_}
-use Rattle.plain.proofs.Rest.{no-constant, no-var, no-int, no-bool, no-width}
+use Rattle.plain.proofs.Rest.{no-var}
 use borrow.Author.Needs.{needs}
 use Rattle.plain.proofs.operands.is_plain_operand.Statement.{statement}
 use Rattle.plain.proofs.operands.is_plain_operand.Tie as tie

@@ -1,4 +1,4 @@
-use Rattle.plain.proofs.Rest.{no-constant, no-var, no-int, no-bool, no-width}
+use Rattle.plain.proofs.Rest.{no-width}
 use Rattle.machine.specs.Steps.{width}
 use borrow.Author.Needs.{needs}
 use Rattle.plain.proofs.operands.width.Statement.{statement}

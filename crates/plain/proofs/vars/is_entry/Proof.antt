@@ -1,12 +1,12 @@
 use Rattle.ir.specs.declared.«Type».{«Type» as IrType}
 use Rattle.cells.specs.Cells.{cellAt}
-use Prim.Native.Nat.{ℕ, _<_, _+_, _*_}
-use mathlib.Core.Path.{_≡_, ap, _∙_}
+use Prim.Native.Nat.{_<_}
+use mathlib.Core.Path.{ap, _∙_}
 use Rattle.machine.specs.Plain.{sameType, noType}
 use native.Mathlib.Omega.{arith}
-use Rattle.ir.specs.Function.{functionOf, typeAt}
+use Rattle.ir.specs.Function.{functionOf}
 use Rattle.plain.proofs.Sheet.{types-length, type-there}
-use borrow.Author.Tests.{ne-eqb, eq-eqb, lt-ltb, le-ltb, le-leb, lt-leb}
+use borrow.Author.Tests.{lt-ltb, le-ltb}
 use borrow.Author.Needs.{needs}
 use Rattle.plain.proofs.vars.is_entry.Statement.{statement}
 use Rattle.plain.proofs.vars.is_entry.Tie as tie

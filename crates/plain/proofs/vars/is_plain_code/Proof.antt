@@ -1,4 +1,4 @@
-use Rattle.plain.proofs.Tests.{two-passed, two-failed, pair-passed, pair-failed, or-false, code-integer, code-other, code-none, code-float, code-high, logical, bitwise, comparison, shift, additive, remainder}
+use Rattle.plain.proofs.Tests.{code-integer, code-other, code-none, code-float, code-high}
 use native.Mathlib.Omega.{arith}
 use Rattle.plain.proofs.vars.is_plain_code.Statement.{statement}
 use Rattle.plain.proofs.vars.is_plain_code.Tie as tie

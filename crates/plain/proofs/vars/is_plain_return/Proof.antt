@@ -1,5 +1,5 @@
-use Rattle.plain.proofs.Tests.{two-passed, two-failed, pair-passed, pair-failed, or-false, code-integer, code-other, code-none, code-float, code-high, logical, bitwise, comparison, shift, additive, remainder}
-use borrow.Author.Tests.{ne-eqb, eq-eqb, lt-ltb, le-ltb, le-leb, lt-leb}
+use Rattle.plain.proofs.Tests.{or-false}
+use borrow.Author.Tests.{ne-eqb}
 use borrow.Author.Needs.{needs}
 use Rattle.plain.proofs.vars.is_plain_return.Statement.{statement}
 use Rattle.plain.proofs.vars.is_plain_return.Tie as tie

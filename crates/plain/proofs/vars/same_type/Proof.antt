@@ -1,4 +1,4 @@
-use borrow.Author.Tests.{ne-eqb, eq-eqb, lt-ltb, le-ltb, le-leb, lt-leb}
+use borrow.Author.Tests.{ne-eqb, eq-eqb}
 use Rattle.plain.proofs.vars.same_type.Statement.{statement}
 use Rattle.plain.proofs.vars.same_type.Tie as tie
 
