@@ -19,7 +19,8 @@ use Rattle.machine.specs.Plain.{labelCount}
 use Rattle.plain.specs.Parts.{Laid, Counts, Few, oneMore}
 use Rattle.plain.proofs.Walk.{Walk, has-few, walk-from, walk-next, lines-length, lines-more}
 
-pub no-label : (i : Instr) (counts : List ℕ) → OneOf (0 ∷ 1 ∷ 2 ∷ 3 ∷ 4 ∷ 5 ∷ 7 ∷ 8 ∷ 9 ∷ 10 ∷ []) (tagOf irInstr.the-type i) → counts ≡ oneMore i counts
+pub no-label : (i : Instr) (counts : List ℕ) →
+    OneOf (0 ∷ 1 ∷ 2 ∷ 3 ∷ 4 ∷ 5 ∷ 7 ∷ 8 ∷ 9 ∷ 10 ∷ []) (tagOf irInstr.the-type i) → counts ≡ oneMore i counts
 no-label (Instr.Copy d x) counts h = refl
 no-label (Instr.Unary d op x) counts h = refl
 no-label (Instr.Binary d op x y) counts h = refl

@@ -1,7 +1,8 @@
+use Rattle.plain.specs.Parts.{Counts, verdict}
+use lib.ListN.{replicate, length-replicate, getD-replicate}
+use mathlib.Core.List.{[]}
 use Prim.Native.Nat.{ℕ}
 use Rattle.machine.specs.Plain.{labelCount}
-use Rattle.plain.specs.Parts.{verdict}
-use lib.ListN.{length-replicate, getD-replicate}
 use Rattle.plain.proofs.Walk.{has-params}
 use borrow.Author.Tests.{not-true, not-false}
 use borrow.Author.Needs.{needs}
@@ -17,14 +18,18 @@ returns c = simp (← c .before .is-plain-head .ensures, not-true (c .before .is
 
 count-labels-requires : tie.Need-count-labels-requires
 unfolding labelCount
-count-labels-requires c κs = (c .before .before .before .before .pre .0, record { long = length-replicate {A = ℕ} 256 0; each = λ l h. getD-replicate {A = ℕ} 256 l 0 0 h })
+count-labels-requires c κs =
+    let z : Counts [] (replicate 256 0) = record { long = length-replicate {A = ℕ} 256 0; each = λ l h. getD-replicate {A = ℕ} 256 l 0 0 h } in
+    (c .before .before .before .before .pre .0, z)
 
 first-fault-requires : tie.Need-first-fault-requires
 first-fault-requires c κs = search needs
 
 returns-2 : tie.Need-returns-2
 unfolding verdict
-returns-2 c = simp (← c .before .before .before .before .before .is-plain-head .ensures, not-false (c .before .before .before .before .before .is-plain-head .result) (c .before .before .before .before .if1 .left), ← c .first-fault .ensures)
+returns-2 c =
+    let h = c .before .before .before .before .before .is-plain-head in
+    simp (← h .ensures, not-false (h .result) (c .before .before .before .before .if1 .left), ← c .first-fault .ensures)
 
 pub conditions-spec : {M : Type 1} → statement M
 conditions-spec =

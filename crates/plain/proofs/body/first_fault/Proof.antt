@@ -55,7 +55,8 @@ loop-again : tie.Need-loop-again Inv-loop μ-loop
 loop-again c =
     let l = c .before .before .before .before .before in
     let F = functionOf (l .before .before .before .before .args .sheet .now) in
-    let e = sym (c .before .before .is-plain-instr .ensures ∙ ap (λ (i : Instr). isPlainInstr F i) (c .before .before .before .instr-at .ensures)) ∙ not-false _ (c .before .if1 .left) in
+    let i = c .before .before .before .instr-at .ensures in
+    let e = sym (c .before .before .is-plain-instr .ensures ∙ ap (λ (i : Instr). isPlainInstr F i) i) ∙ not-false _ (c .before .if1 .left) in
     rw (c .behind .ensures) (one-tested (l .loop .inv) (c .before .before .before .before .loop-test .taken) e)
 
 returns-2 : tie.Need-returns-2 Inv-loop μ-loop

@@ -12,7 +12,9 @@ use Rattle.plain.proofs.head.are_distinct.Statement.{statement}
 use Rattle.plain.proofs.head.are_distinct.Tie as tie
 
 abbrev Inv-loop : tie.InvT-loop
-Inv-loop sheet n from left₀ cell₀ left cell = Left (λ (m k : ℕ). areDistinct (varsAt sheet m k)) (areDistinct (varsAt sheet n from)) left cell × (cell + 3 * left ≤ cells sheet)
+Inv-loop sheet n from left₀ cell₀ left cell =
+    Left (λ (m k : ℕ). areDistinct (varsAt sheet m k)) (areDistinct (varsAt sheet n from))
+    left cell × (cell + 3 * left ≤ cells sheet)
 
 abbrev μ-loop : tie.MeasureT-loop
 μ-loop sheet n from left₀ cell₀ left cell = left

@@ -13,7 +13,9 @@ use Rattle.plain.proofs.head.are_scalar_vars.Statement.{statement}
 use Rattle.plain.proofs.head.are_scalar_vars.Tie as tie
 
 abbrev Inv-loop : tie.InvT-loop
-Inv-loop sheet n from left₀ cell₀ left cell = Left (λ (m k : ℕ). every (isScalarVar (functionOf sheet)) (varsAt sheet m k)) (every (isScalarVar (functionOf sheet)) (varsAt sheet n from)) left cell × (cell + 3 * left ≤ cells sheet)
+Inv-loop sheet n from left₀ cell₀ left cell =
+    Left (λ (m k : ℕ). every (isScalarVar (functionOf sheet)) (varsAt sheet m k)) (every (isScalarVar (functionOf sheet)) (varsAt sheet n from))
+    left cell × (cell + 3 * left ≤ cells sheet)
 
 abbrev μ-loop : tie.MeasureT-loop
 μ-loop sheet n from left₀ cell₀ left cell = left
@@ -31,11 +33,17 @@ returns : tie.Need-returns Inv-loop μ-loop
 unfolding every varsAt
 returns c =
     let l = c .before .before .before .before in
-    let e : isScalarVar (functionOf (c .before .before .before .before .before .before .args .sheet .now)) (varAt (c .before .before .before .before .before .before .args .sheet .now) (c .before .before .before .before .loop .cell)) ≡ false = sym (c .before .is-scalar-var .ensures ∙ ap (λ (x : VarId). isScalarVar (functionOf (c .before .before .before .before .before .before .args .sheet .now)) x) (c .before .before .var-at .ensures)) ∙ not-true _ (c .if1 .taken) in
-    stops _ _ (l .loop .inv .0) (c .before .before .before .loop-test .taken) (rw e)
+    let s = l .before .before .args .sheet .now in
+    let t = c .before .before .before .loop-test .taken in
+    let e : isScalarVar (functionOf s) (varAt s (l .loop .cell)) ≡ false =
+    sym (c .before .is-scalar-var .ensures ∙ ap (λ (x : VarId). isScalarVar (functionOf s) x) (c .before .before .var-at .ensures))
+    ∙ not-true _ (c .if1 .taken) in
+    stops _ _ (l .loop .inv .0) t (rw e)
 
 add-cell : tie.Need-add-cell Inv-loop μ-loop
-add-cell c = omega (arith, c .before .before .before .before .loop .inv .1, c .before .before .before .loop-test .taken, c .before .before .before .before .before .before .good)
+add-cell c =
+    let l = c .before .before .before .before in
+    omega (arith, l .loop .inv .1, c .before .before .before .loop-test .taken, l .before .before .good)
 
 sub-left : tie.Need-sub-left Inv-loop μ-loop
 sub-left c = omega (arith, c .before .before .before .loop-test .taken)
@@ -47,8 +55,12 @@ loop-again : tie.Need-loop-again Inv-loop μ-loop
 unfolding every varsAt
 loop-again c =
     let l = c .before .before .before .before in
-    let e : isScalarVar (functionOf (c .before .before .before .before .before .before .args .sheet .now)) (varAt (c .before .before .before .before .before .before .args .sheet .now) (c .before .before .before .before .loop .cell)) ≡ true = sym (c .before .is-scalar-var .ensures ∙ ap (λ (x : VarId). isScalarVar (functionOf (c .before .before .before .before .before .before .args .sheet .now)) x) (c .before .before .var-at .ensures)) ∙ not-false _ (c .if1 .left) in
-    (goes-on _ _ (l .loop .inv .0) _ (c .before .before .before .loop-test .taken) (rw e), omega (arith, l .loop .inv .1, c .before .before .before .loop-test .taken))
+    let s = l .before .before .args .sheet .now in
+    let t = c .before .before .before .loop-test .taken in
+    let e : isScalarVar (functionOf s) (varAt s (l .loop .cell)) ≡ true =
+    sym (c .before .is-scalar-var .ensures ∙ ap (λ (x : VarId). isScalarVar (functionOf s) x) (c .before .before .var-at .ensures))
+    ∙ not-false _ (c .if1 .left) in
+    (goes-on _ _ (l .loop .inv .0) _ t (rw e), omega (arith, l .loop .inv .1, t))
 
 returns-2 : tie.Need-returns-2 Inv-loop μ-loop
 unfolding every varsAt

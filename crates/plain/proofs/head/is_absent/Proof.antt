@@ -13,7 +13,9 @@ use Rattle.plain.proofs.head.is_absent.Statement.{statement}
 use Rattle.plain.proofs.head.is_absent.Tie as tie
 
 abbrev Inv-loop : tie.InvT-loop
-Inv-loop sheet x n from left₀ cell₀ left cell = Left (λ (m k : ℕ). isAbsent x (varsAt sheet m k)) (isAbsent x (varsAt sheet n from)) left cell × (cell + 3 * left ≤ cells sheet)
+Inv-loop sheet x n from left₀ cell₀ left cell =
+    Left (λ (m k : ℕ). isAbsent x (varsAt sheet m k)) (isAbsent x (varsAt sheet n from))
+    left cell × (cell + 3 * left ≤ cells sheet)
 
 abbrev μ-loop : tie.MeasureT-loop
 μ-loop sheet x n from left₀ cell₀ left cell = left
@@ -34,7 +36,9 @@ returns c =
     stops _ _ (l .loop .inv .0) (c .before .before .before .loop-test .taken) (rw e)
 
 add-cell : tie.Need-add-cell Inv-loop μ-loop
-add-cell c = omega (arith, c .before .before .before .before .loop .inv .1, c .before .before .before .loop-test .taken, c .before .before .before .before .before .before .good)
+add-cell c =
+    let l = c .before .before .before .before in
+    omega (arith, l .loop .inv .1, c .before .before .before .loop-test .taken, l .before .before .good)
 
 sub-left : tie.Need-sub-left Inv-loop μ-loop
 sub-left c = omega (arith, c .before .before .before .loop-test .taken)

@@ -37,22 +37,34 @@ unfolding isPlainBinary binaryOp
 returns-2 c = simp (c .before .match .keys2, ← c .is-plain-div .ensures)
 
 returns-3 : tie.Need-returns-3
-returns-3 c = logical (c .before .before .before .args .d) (c .before .before .before .args .x) (c .before .before .before .args .y) (c .before .before .before .args .op) (omega arith)
+returns-3 c =
+    let a = c .before .before .before .args in
+    logical (a .d) (a .x) (a .y) (a .op) (omega arith)
 
 returns-4 : tie.Need-returns-4
-returns-4 c = c .is-plain-sum .ensures ∙ bitwise (c .before .before .before .before .before .args .d) (c .before .before .before .before .before .args .x) (c .before .before .before .before .before .args .y) (c .before .before .before .before .before .args .op) (omega arith) (omega arith)
+returns-4 c =
+    let a = c .before .before .before .before .before .args in
+    c .is-plain-sum .ensures ∙ bitwise (a .d) (a .x) (a .y) (a .op) (omega arith) (omega arith)
 
 returns-5 : tie.Need-returns-5
-returns-5 c = c .is-bool-type .ensures ∙ comparison (c .before .before .before .before .before .before .args .d) (c .before .before .before .before .before .before .args .x) (c .before .before .before .before .before .before .args .y) (c .before .before .before .before .before .before .args .op) (omega arith) (omega arith)
+returns-5 c =
+    let a = c .before .before .before .before .before .before .args in
+    c .is-bool-type .ensures ∙ comparison (a .d) (a .x) (a .y) (a .op) (omega arith) (omega arith)
 
 returns-6 : tie.Need-returns-6
-returns-6 c = c .is-same .ensures ∙ shift (c .before .before .before .before .before .before .before .args .d) (c .before .before .before .before .before .before .before .args .x) (c .before .before .before .before .before .before .before .args .y) (c .before .before .before .before .before .before .before .args .op) (omega arith) (omega arith)
+returns-6 c =
+    let a = c .before .before .before .before .before .before .before .args in
+    c .is-same .ensures ∙ shift (a .d) (a .x) (a .y) (a .op) (omega arith) (omega arith)
 
 returns-7 : tie.Need-returns-7
-returns-7 c = c .is-plain-sum2 .ensures ∙ additive (c .before .before .before .before .before .before .before .before .args .d) (c .before .before .before .before .before .before .before .before .args .x) (c .before .before .before .before .before .before .before .before .args .y) (c .before .before .before .before .before .before .before .before .args .op) (omega arith) (omega arith)
+returns-7 c =
+    let a = c .before .before .before .before .before .before .before .before .args in
+    c .is-plain-sum2 .ensures ∙ additive (a .d) (a .x) (a .y) (a .op) (omega arith) (omega arith)
 
 returns-8 : tie.Need-returns-8
-returns-8 c = c .is-plain-rem .ensures ∙ remainder (c .before .before .before .before .before .before .before .before .args .d) (c .before .before .before .before .before .before .before .before .args .x) (c .before .before .before .before .before .before .before .before .args .y) (c .before .before .before .before .before .before .before .before .args .op) (omega arith)
+returns-8 c =
+    let a = c .before .before .before .before .before .before .before .before .args in
+    c .is-plain-rem .ensures ∙ remainder (a .d) (a .x) (a .y) (a .op) (omega arith)
 
 pub is-plain-binary-spec : {M : Type 1} → statement M
 is-plain-binary-spec =
