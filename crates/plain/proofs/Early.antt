@@ -43,7 +43,8 @@ cell : (m : ℕ) → m ≤ 3 → (x : Cell) {f : ℕ → Cursor → Checked} →
 cell m h (Cell.Word v c) g = g v c
 cell m h (Cell.Wrong k) g = wrong m k h
 
-count : (s : List ℕ) (c : Cursor) (most : ℕ) {f : ℕ → Cursor → Checked} → ((v : ℕ) (c : Cursor) → Early (f v c)) → Early (bindLimited (limited s c most) f)
+count : (s : List ℕ) (c : Cursor) (most : ℕ) {f : ℕ → Cursor → Checked} → ((v : ℕ) (c : Cursor) → Early (f v c)) →
+    Early (bindLimited (limited s c most) f)
 unfolding limited
 count s c most {f} g = go (readWithin s c 0 largest)
   where
@@ -58,7 +59,8 @@ count s c most {f} g = go (readWithin s c 0 largest)
 -- ---- the parts
 
 module _ (s : List ℕ) where
-  two : (c : Cursor) (low high : ℕ) {f : ℕ → Cursor → Checked} → ((v : ℕ) (d : Cursor) → Early (f v d)) → Early (bindCell (Checked.Refused 2) (readWithin s c low high) f)
+  two : (c : Cursor) (low high : ℕ) {f : ℕ → Cursor → Checked} → ((v : ℕ) (d : Cursor) → Early (f v d)) →
+      Early (bindCell (Checked.Refused 2) (readWithin s c low high) f)
   two c low high g = cell 2 (omega arith) (readWithin s c low high) g
 
   ends : (n : ℕ) → n ≤ 3 → (c : Cursor) → Early (endCheck n s c)

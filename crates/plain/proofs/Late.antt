@@ -274,7 +274,8 @@ module _ (ctx : Context) where
   unfolding storeParams
   stores f k [] = gives _
   stores f k (p ∷ ps) =
-      either (Bool·beq (isFloat (p .ty)) f) (either (ltb k (length (registersOf f))) (next (var p) (λ v. next (sized p) (λ z. next (stores f (suc k) ps) (λ r. gives _)))) (gives _)) (stores f k ps)
+      either (Bool·beq (isFloat (p .ty)) f)
+      (either (ltb k (length (registersOf f))) (next (var p) (λ v. next (sized p) (λ z. next (stores f (suc k) ps) (λ r. gives _)))) (gives _)) (stores f k ps)
 
   prologue : (n : ℕ) (ps : List VarId) → Late (funcPrologue ctx n ps)
   unfolding funcPrologue

@@ -121,13 +121,15 @@ module _ (t s : List ℕ) where
 
   module _ (is : List Instruction) where
     pub compiled-accepted : compiled t s ≡ accepted is →
-        (c : Cursor) × (tablesCheck t ≡ Checked.Behind c) × (d : Cursor) × (sheetCheck s ≡ Checked.Behind d) × (generate (tablesOf t) (functionOf s) ≡ accepted is)
+        (c : Cursor) × (tablesCheck t ≡ Checked.Behind c) × (d : Cursor) × (sheetCheck s ≡ Checked.Behind d)
+        × (generate (tablesOf t) (functionOf s) ≡ accepted is)
     unfolding compiled
     compiled-accepted e = go (tablesCheck t) refl (sheetCheck s) refl e
       where
         go : (a : Checked) → tablesCheck t ≡ a → (b : Checked) → sheetCheck s ≡ b →
             checked a (λ u. checked b (λ v. generate (tablesOf t) (functionOf s))) ≡ accepted is →
-            (c : Cursor) × (tablesCheck t ≡ Checked.Behind c) × (d : Cursor) × (sheetCheck s ≡ Checked.Behind d) × (generate (tablesOf t) (functionOf s) ≡ accepted is)
+            (c : Cursor) × (tablesCheck t ≡ Checked.Behind c) × (d : Cursor) × (sheetCheck s ≡ Checked.Behind d)
+            × (generate (tablesOf t) (functionOf s) ≡ accepted is)
         go (Checked.Behind c) p (Checked.Behind d) q e = (c, p, d, q, e)
         go (Checked.Behind c) p (Checked.Refused n k) q e = absurd (never e)
         go (Checked.Refused n k) p b q e = absurd (never e)

@@ -25,9 +25,10 @@ are-plain-types-requires c κs = search needs
 
 returns : tie.Need-returns
 returns c =
-    let q = c .before .before .before in
+    let r1 = c in
+    let q = r1 .before .before .before in
     let s = q .before .before .args .sheet .now in
-    let e1 = sym (rw (q .cell-at .ensures) at (c .before .are-plain-types .ensures)) ∙ not-true _ (c .if1 .taken) in
+    let e1 = sym (rw (q .cell-at .ensures) at (r1 .before .are-plain-types .ensures)) ∙ not-true _ (r1 .if1 .taken) in
     types-fault s e1
 
 type-at-requires : tie.Need-type-at-requires
@@ -38,53 +39,63 @@ is-plain-return-requires c κs = search needs
 
 returns-2 : tie.Need-returns-2
 returns-2 c =
-    let q = c .before .before .before .before .before .before in
+    let r2 = c in
+    let r1 = r2 .before .before .before in
+    let q = r1 .before .before .before in
     let s = q .before .before .args .sheet .now in
-    let e1 = sym (rw (q .cell-at .ensures) at (c .before .before .before .before .are-plain-types .ensures)) ∙ not-false _ (c .before .before .before .if1 .left) in
-    let r = c .before in
-    let e2 = sym (r .is-plain-return .ensures ∙ ap (λ (t : IrType). isPlainReturn t) (r .before .type-at .ensures)) ∙ not-true _ (c .if2 .taken) in
+    let e1 = sym (rw (q .cell-at .ensures) at (r1 .before .are-plain-types .ensures)) ∙ not-false _ (r1 .if1 .left) in
+    let t = r2 .before .before .type-at .ensures in
+    let e2 = sym (r2 .before .is-plain-return .ensures ∙ ap (λ (t : IrType). isPlainReturn t) t) ∙ not-true _ (r2 .if2 .taken) in
     return-fault s e1 e2
 
 returns-3 : tie.Need-returns-3
 returns-3 c =
-    let q = c .before .before .before .before .before .before .before in
+    let r3 = c in
+    let r2 = r3 .before in
+    let r1 = r2 .before .before .before in
+    let q = r1 .before .before .before in
     let s = q .before .before .args .sheet .now in
-    let e1 = sym (rw (q .cell-at .ensures) at (c .before .before .before .before .before .are-plain-types .ensures)) ∙ not-false _ (c .before .before .before .before .if1 .left) in
-    let r = c .before .before in
-    let e2 = sym (r .is-plain-return .ensures ∙ ap (λ (t : IrType). isPlainReturn t) (r .before .type-at .ensures)) ∙ not-false _ (c .before .if2 .left) in
-    let n = c .before .before .before .before .before .before .cell-at2 .ensures in
-    let m = c .if3 in
-    count-fault s e1 e2 (omega (arith, n, m .taken))
+    let e1 = sym (rw (q .cell-at .ensures) at (r1 .before .are-plain-types .ensures)) ∙ not-false _ (r1 .if1 .left) in
+    let t = r2 .before .before .type-at .ensures in
+    let e2 = sym (r2 .before .is-plain-return .ensures ∙ ap (λ (t : IrType). isPlainReturn t) t) ∙ not-false _ (r2 .if2 .left) in
+    let n = r1 .before .before .cell-at2 .ensures in
+    count-fault s e1 e2 (omega (arith, n, r3 .if3 .taken))
 
 are-distinct-requires : tie.Need-are-distinct-requires
 are-distinct-requires c κs = search needs
 
 returns-4 : tie.Need-returns-4
 returns-4 c =
-    let q = c .before .before .before .before .before .before .before .before .before in
+    let r4 = c in
+    let r3 = r4 .before .before in
+    let r2 = r3 .before in
+    let r1 = r2 .before .before .before in
+    let q = r1 .before .before .before in
     let s = q .before .before .args .sheet .now in
-    let e1 = sym (rw (q .cell-at .ensures) at (c .before .before .before .before .before .before .before .are-plain-types .ensures)) ∙ not-false _ (c .before .before .before .before .before .before .if1 .left) in
-    let r = c .before .before .before .before in
-    let e2 = sym (r .is-plain-return .ensures ∙ ap (λ (t : IrType). isPlainReturn t) (r .before .type-at .ensures)) ∙ not-false _ (c .before .before .before .if2 .left) in
-    let n = c .before .before .before .before .before .before .before .before .cell-at2 .ensures in
-    let m = c .before .before .if3 in
-    let e4 = sym (rw (q .cell-at .ensures, n) at (c .before .are-distinct .ensures)) ∙ not-true _ (c .if4 .taken) in
-    distinct-fault s e1 e2 (omega (arith, n, m .left)) e4
+    let e1 = sym (rw (q .cell-at .ensures) at (r1 .before .are-plain-types .ensures)) ∙ not-false _ (r1 .if1 .left) in
+    let t = r2 .before .before .type-at .ensures in
+    let e2 = sym (r2 .before .is-plain-return .ensures ∙ ap (λ (t : IrType). isPlainReturn t) t) ∙ not-false _ (r2 .if2 .left) in
+    let n = r1 .before .before .cell-at2 .ensures in
+    let e4 = sym (rw (q .cell-at .ensures, n) at (r4 .before .are-distinct .ensures)) ∙ not-true _ (r4 .if4 .taken) in
+    distinct-fault s e1 e2 (omega (arith, n, r3 .if3 .left)) e4
 
 are-scalar-vars-requires : tie.Need-are-scalar-vars-requires
 are-scalar-vars-requires c κs = search needs
 
 returns-5 : tie.Need-returns-5
 returns-5 c =
-    let q = c .before .before .before .before .before .before .before .before .before .before in
+    let r4 = c .before in
+    let r3 = r4 .before .before in
+    let r2 = r3 .before in
+    let r1 = r2 .before .before .before in
+    let q = r1 .before .before .before in
     let s = q .before .before .args .sheet .now in
-    let e1 = sym (rw (q .cell-at .ensures) at (c .before .before .before .before .before .before .before .before .are-plain-types .ensures)) ∙ not-false _ (c .before .before .before .before .before .before .before .if1 .left) in
-    let r = c .before .before .before .before .before in
-    let e2 = sym (r .is-plain-return .ensures ∙ ap (λ (t : IrType). isPlainReturn t) (r .before .type-at .ensures)) ∙ not-false _ (c .before .before .before .before .if2 .left) in
-    let n = c .before .before .before .before .before .before .before .before .before .cell-at2 .ensures in
-    let m = c .before .before .before .if3 in
-    let e4 = sym (rw (q .cell-at .ensures, n) at (c .before .before .are-distinct .ensures)) ∙ not-false _ (c .before .if4 .left) in
-    rw (q .cell-at .ensures, n) at (c .are-scalar-vars .ensures) ∙ head-last s e1 e2 (omega (arith, n, m .left)) e4
+    let e1 = sym (rw (q .cell-at .ensures) at (r1 .before .are-plain-types .ensures)) ∙ not-false _ (r1 .if1 .left) in
+    let t = r2 .before .before .type-at .ensures in
+    let e2 = sym (r2 .before .is-plain-return .ensures ∙ ap (λ (t : IrType). isPlainReturn t) t) ∙ not-false _ (r2 .if2 .left) in
+    let n = r1 .before .before .cell-at2 .ensures in
+    let e4 = sym (rw (q .cell-at .ensures, n) at (r4 .before .are-distinct .ensures)) ∙ not-false _ (r4 .if4 .left) in
+    rw (q .cell-at .ensures, n) at (c .are-scalar-vars .ensures) ∙ head-last s e1 e2 (omega (arith, n, r3 .if3 .left)) e4
 
 pub is-plain-head-spec : {M : Type 1} → statement M
 is-plain-head-spec =

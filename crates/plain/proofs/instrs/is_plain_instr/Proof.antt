@@ -55,7 +55,9 @@ enum-known-instr-8 : tie.Need-enum-known-instr-8
 enum-known-instr-8 c = search needs
 
 is-plain-branch-requires : tie.Need-is-plain-branch-requires
-is-plain-branch-requires c κs = (c .before .before .before .before .pre .0, (c .before .before .before .before .pre .1 .0, rw (c .before .instr8 .given .1) at (c .before .before .before .before .pre .1 .1)))
+is-plain-branch-requires c κs =
+    let p = c .before .before .before .before .pre in
+    (p .0, (p .1 .0, rw (c .before .instr8 .given .1) at (p .1 .1)))
 
 enum-known-instr-9 : tie.Need-enum-known-instr-9
 enum-known-instr-9 c = search needs

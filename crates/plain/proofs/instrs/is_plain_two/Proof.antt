@@ -30,7 +30,15 @@ returns c =
     let a = c .before .before .before .before .before .before .before .before .before .args in
     let F = functionOf (a .sheet .now) in
     let t : Bool = isPlainOperand F (a .y) && (eqb (width (a .x)) (width (a .y)) && isPlainBinary (binaryOp (a .op)) (a .d) (a .x) (a .y)) in
-    simp (pair-passed F (a .d) (a .x) (c .before .before .before .before .before .before .before .is-plain-pair .ensures) (c .before .before .before .before .before .before .if1 .taken) t, ← c .before .before .before .before .before .is-plain-operand .ensures, c .before .before .before .before .if2 .taken, ← c .before .before .before .width .ensures, ← c .before .before .width2 .ensures, eq-eqb _ _ (c .before .if3 .taken), ← c .is-plain-binary .ensures)
+    simp (
+      pair-passed F (a .d) (a .x) (c .before .before .before .before .before .before .before .is-plain-pair .ensures) (c .before .before .before .before .before .before .if1 .taken) t,
+      ← c .before .before .before .before .before .is-plain-operand .ensures,
+      c .before .before .before .before .if2 .taken,
+      ← c .before .before .before .width .ensures,
+      ← c .before .before .width2 .ensures,
+      eq-eqb _ _ (c .before .if3 .taken),
+      ← c .is-plain-binary .ensures,
+    )
 
 returns-2 : tie.Need-returns-2
 unfolding isPlainInstr
@@ -38,7 +46,14 @@ returns-2 c =
     let a = c .before .before .before .before .before .before .before .before .args in
     let F = functionOf (a .sheet .now) in
     let t : Bool = isPlainOperand F (a .y) && (eqb (width (a .x)) (width (a .y)) && isPlainBinary (binaryOp (a .op)) (a .d) (a .x) (a .y)) in
-    simp (pair-passed F (a .d) (a .x) (c .before .before .before .before .before .before .is-plain-pair .ensures) (c .before .before .before .before .before .if1 .taken) t, ← c .before .before .before .before .is-plain-operand .ensures, c .before .before .before .if2 .taken, ← c .before .before .width .ensures, ← c .before .width2 .ensures, ne-eqb _ _ (c .if3 .left))
+    simp (
+      pair-passed F (a .d) (a .x) (c .before .before .before .before .before .before .is-plain-pair .ensures) (c .before .before .before .before .before .if1 .taken) t,
+      ← c .before .before .before .before .is-plain-operand .ensures,
+      c .before .before .before .if2 .taken,
+      ← c .before .before .width .ensures,
+      ← c .before .width2 .ensures,
+      ne-eqb _ _ (c .if3 .left),
+    )
 
 returns-3 : tie.Need-returns-3
 unfolding isPlainInstr
@@ -46,7 +61,11 @@ returns-3 c =
     let a = c .before .before .before .before .before .args in
     let F = functionOf (a .sheet .now) in
     let t : Bool = isPlainOperand F (a .y) && (eqb (width (a .x)) (width (a .y)) && isPlainBinary (binaryOp (a .op)) (a .d) (a .x) (a .y)) in
-    simp (pair-passed F (a .d) (a .x) (c .before .before .before .is-plain-pair .ensures) (c .before .before .if1 .taken) t, ← c .before .is-plain-operand .ensures, c .if2 .left)
+    simp (
+      pair-passed F (a .d) (a .x) (c .before .before .before .is-plain-pair .ensures) (c .before .before .if1 .taken) t,
+      ← c .before .is-plain-operand .ensures,
+      c .if2 .left,
+    )
 
 returns-4 : tie.Need-returns-4
 unfolding isPlainInstr

@@ -16,13 +16,35 @@ returns-2 : tie.Need-returns-2
 returns-2 c = simp (← c .before .before .before .width .ensures, c .before .before .if1 .left, ← c .before .bytes .ensures .0, ne-eqb _ 8 (c .if2 .taken))
 
 returns-3 : tie.Need-returns-3
-returns-3 c = simp (← c .before .before .before .before .width .ensures, c .before .before .before .if1 .left, ← c .before .before .bytes .ensures .0, c .before .if2 .left, c .match .keys1)
+returns-3 c =
+    simp (
+      ← c .before .before .before .before .width .ensures,
+      c .before .before .before .if1 .left,
+      ← c .before .before .bytes .ensures .0,
+      c .before .if2 .left,
+      c .match .keys1,
+    )
 
 returns-4 : tie.Need-returns-4
-returns-4 c = simp (← c .before .before .before .before .width .ensures, c .before .before .before .if1 .left, ← c .before .before .bytes .ensures .0, c .before .if2 .left, c .match .keys2)
+returns-4 c =
+    simp (
+      ← c .before .before .before .before .width .ensures,
+      c .before .before .before .if1 .left,
+      ← c .before .before .bytes .ensures .0,
+      c .before .if2 .left,
+      c .match .keys2,
+    )
 
 returns-5 : tie.Need-returns-5
-returns-5 c = simp (← c .before .before .before .before .width .ensures, c .before .before .before .if1 .left, ← c .before .before .bytes .ensures .0, c .before .if2 .left, ne-eqb _ 1 (c .match .rest .0 .1), ne-eqb _ 2 (c .match .rest .1))
+returns-5 c =
+    simp (
+      ← c .before .before .before .before .width .ensures,
+      c .before .before .before .if1 .left,
+      ← c .before .before .bytes .ensures .0,
+      c .before .if2 .left,
+      ne-eqb _ 1 (c .match .rest .0 .1),
+      ne-eqb _ 2 (c .match .rest .1),
+    )
 
 pub is-wide-spec : {M : Type 1} → statement M
 is-wide-spec =
