@@ -1,0 +1,12 @@
+pub mod Rest
+pub mod Tests
+pub mod Sheet
+pub mod Turns
+pub mod Walk
+pub mod Counting
+pub mod Faults
+pub mod Headed
+pub mod Named
+pub mod Verdict
+pub mod Late
+pub mod Early
