@@ -8,11 +8,11 @@ use native.Mathlib.Numerals.{add-one, sub-one}
 use native.Mathlib.Omega.{arith}
 use lib.Dec.{ltb, eqb}
 use lib.ListN.{length, take, drop, set, length-append, take-append-drop}
-use lib.Seq.{sets-eq}
+use lib.Seq.{sets-eq, length-take-le}
 use borrow.Author.Tests.{lt-ltb, le-ltb}
 use Rattle.cells.specs.Cells.{write, cellAt}
-use Rattle.cells.proofs.Bytes.{write-write}
-use Rattle.text.specs.Text.{digits, signed, cellsLine, recordLine, okWord, okLine, refusedWord, refusedLine, Put}
+use Rattle.cells.proofs.Bytes.{write-write, write-length}
+use Rattle.text.specs.Text.{digits, signed, cellsLine, recordLine, okWord, okLine, refusedWord, refusedLine, Put, Counts}
 
 -- nothing
 pub put-none : (s : List ℕ) (at : ℕ) → Put s at [] at s
@@ -115,20 +115,28 @@ minus-cell v w h e f x y = rw (signed-minus v h, ← e) (put-append x y (omega (
 
 -- ---- the lines
 
-pub record-put : {s out : List ℕ} {q : ℕ} (bs : List ℕ) (k : ℕ) → Put s 0 (cellsLine bs (k * 8) 8) q out → Put s 0 (recordLine bs k) q out
+-- a text that fits is counted by its length
+counted : {s out bs : List ℕ} {q : ℕ} → Put s 0 bs q out → length bs ≤ length s → Counts q out
+counted {s} {out} {bs} {q} x h =
+    let l : length out ≡ length s = ap length (x .text) ∙ write-length s bs 0 (omega arith) in
+    let f : q ≤ length out = omega (arith, x .behind) in
+    (f, sym (length-take-le q out f))
+
+pub record-put : {s out : List ℕ} {q : ℕ} (bs : List ℕ) (k : ℕ) → 176 ≤ length s → Put s 0 (cellsLine bs (k * 8) 8) q out →
+    Put s 0 (recordLine bs k) q out × Counts q out
 unfolding recordLine
-record-put bs k x = x
+record-put bs k h x = (x, counted x (omega (arith, line-length bs (k * 8) 8)))
 
 pub ok-put : {s mid lo out : List ℕ} {a b q : ℕ} (n : ℕ) → 24 ≤ length s → Put s 0 okWord a mid → Put mid a (digits 20 n) b lo → Put lo b (10 ∷ []) q out →
-    Put s 0 (okLine n) q out
+    Put s 0 (okLine n) q out × Counts q out
 unfolding okLine
 ok-put n h x y z =
     let d = digits-length 20 n in
-    rw (← append-assoc okWord (digits 20 n) (10 ∷ []))
-    (put-append (put-append x y (omega (arith, d, h))) z (simp length-append (omega (arith, d, h))))
+    let p = put-append (put-append x y (omega (arith, d, h))) z (simp length-append (omega (arith, d, h))) in
+    (rw (← append-assoc okWord (digits 20 n) (10 ∷ [])) p, counted p (simp length-append (omega (arith, d, h))))
 
 pub refused-put : {s s1 s2 s3 s4 out : List ℕ} {a b c d q : ℕ} (n place : ℕ) → 50 ≤ length s → Put s 0 refusedWord a s1 → Put s1 a (digits 20 n) b s2 →
-    Put s2 b (32 ∷ []) c s3 → Put s3 c (digits 20 place) d s4 → Put s4 d (10 ∷ []) q out → Put s 0 (refusedLine n place) q out
+    Put s2 b (32 ∷ []) c s3 → Put s3 c (digits 20 place) d s4 → Put s4 d (10 ∷ []) q out → Put s 0 (refusedLine n place) q out × Counts q out
 unfolding refusedLine
 refused-put {s} {out = out} {q = q} n place h x y z v w =
     let e = digits-length 20 n in
@@ -137,4 +145,4 @@ refused-put {s} {out = out} {q = q} n place h x y z v w =
     let two = put-append one z (simp length-append (omega (arith, e, h))) in
     let three = put-append two v (simp length-append (omega (arith, e, f, h))) in
     let four = put-append three w (simp length-append (omega (arith, e, f, h))) in
-    simp append-assoc at four
+    (simp append-assoc at four, counted four (simp length-append (omega (arith, e, f, h))))

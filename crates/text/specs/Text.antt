@@ -1,10 +1,10 @@
 -- The text that the listing program writes, as ASCII codes (01, "The listing program").
-use Prim.Native.Nat.{ℕ, zero, suc, _+_, _*_, _-_, _/_, _%_, _^_}
+use Prim.Native.Nat.{ℕ, zero, suc, _+_, _*_, _-_, _/_, _%_, _^_, _≤_}
 use mathlib.Core.List.{List, [], _∷_, _++_}
 use mathlib.Core.Bool.{cond}
 use lib.Dec.{ltb, eqb}
 use mathlib.Core.Path.{_≡_}
-use lib.ListN.{length}
+use lib.ListN.{length, take}
 use Rattle.cells.specs.Cells.{cellAt, write}
 
 -- a number in decimal, the highest digit first, in at most k digits: 48 is `0` (01, "The listing program": "numbers")
@@ -49,3 +49,7 @@ refusedLine n place = refusedWord ++ (decimal n ++ (32 ∷ (decimal place ++ (10
 pub record Put (before : List ℕ) (at : ℕ) (bs : List ℕ) (r : ℕ) (after : List ℕ) : Type 0 where
   pub behind : r ≡ at + length bs
   pub text : after ≡ write before at bs
+
+-- r counts bytes at the start of a list; the second part follows from the first, and both are what lending those bytes asks
+abbrev pub Counts : ℕ → List ℕ → Type 0
+Counts r s = (r ≤ length s) × (r ≡ length (take r s))

@@ -1,4 +1,6 @@
 // The text of the listing program: numbers, cells and lines, written into a lent line. A line of 192 bytes holds every line.
+pub mod input;
+
 use cells::cell_at;
 ghost use mathlib.Core.Path.{_≡_};
 ghost use mathlib.Core.Bool.{cond};
@@ -7,7 +9,7 @@ ghost use Prim.Native.Nat.{_+_, _*_, _/_, _≤_, _<_};
 ghost use lib.Dec.{eqb};
 ghost use lib.ListN.{length};
 ghost use Rattle.cells.specs.Cells.{cells};
-ghost use Rattle.text.specs.Text.{digits, signed, cellsLine, recordLine, okLine, refusedLine, okWord, refusedWord, Put};
+ghost use Rattle.text.specs.Text.{digits, signed, cellsLine, recordLine, okLine, refusedLine, okWord, refusedWord, Put, Counts};
 
 // One byte at a place; the answer is the place behind it.
 fn put_byte(out: &mut [u8], at: usize, b: u8) -> usize
@@ -78,6 +80,7 @@ fn put_cells(records: &[u8], k: usize, n: usize, out: &mut [u8], at: usize) -> u
 pub fn record_line(records: &[u8], k: usize, line: &mut [u8; 192]) -> usize
     requires { ⌜ k < length (now records) / 64 ⌝ }
     ensures { λ r. ⌜ Put (now (line .entry)) 0 (recordLine (now (records .entry)) k) r (now (line .exit)) ⌝ }
+    ensures { λ r. ⌜ Counts r (now (line .exit)) ⌝ }
 {
     put_cells(records, k * 8, 8, line, 0)
 }
@@ -110,6 +113,7 @@ fn put_refused(line: &mut [u8]) -> usize
 // The first line of an accepted sheet's text, with the count of its records; the answer is the line's length.
 pub fn ok_line(n: u64, line: &mut [u8; 192]) -> usize
     ensures { λ r. ⌜ Put (now (line .entry)) 0 (okLine n) r (now (line .exit)) ⌝ }
+    ensures { λ r. ⌜ Counts r (now (line .exit)) ⌝ }
 {
     let number = put_ok(line);
     let end = put_digits(line, number, 20, n);
@@ -119,6 +123,7 @@ pub fn ok_line(n: u64, line: &mut [u8; 192]) -> usize
 // The line of a refusal, with its number and place; the answer is the line's length.
 pub fn refused_line(n: u64, place: u64, line: &mut [u8; 192]) -> usize
     ensures { λ r. ⌜ Put (now (line .entry)) 0 (refusedLine n place) r (now (line .exit)) ⌝ }
+    ensures { λ r. ⌜ Counts r (now (line .exit)) ⌝ }
 {
     let number = put_refused(line);
     let blank = put_digits(line, number, 20, n);

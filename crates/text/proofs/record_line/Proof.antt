@@ -1,3 +1,4 @@
+use native.Mathlib.Omega.{arith}
 use Rattle.text.proofs.Pieces.{record-put}
 use borrow.Author.Needs.{needs}
 use Rattle.text.proofs.record_line.Statement.{statement}
@@ -10,7 +11,7 @@ put-cells-requires : tie.Need-put-cells-requires
 put-cells-requires c κs = search needs
 
 returns : tie.Need-returns
-returns c = record-put _ _ (c .put-cells .ensures)
+returns c = record-put _ _ (omega (arith, c .before .before .before .good)) (c .put-cells .ensures)
 
 pub record-line-spec : {M : Type 1} → statement M
 record-line-spec = tie.close (tie.spec mul-put-cells put-cells-requires returns)
