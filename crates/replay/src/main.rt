@@ -13,7 +13,7 @@ ghost use lib.ListN.{length};
 // `KRCVEC01`, as a cell.
 const MAGIC: u64 = 3544406871819637323;
 
-// A number of the list and the place behind it; or the list is cut short, or the number has more than 64 bits.
+// A number of the list and the place behind it; or the list is cut short, or the number has more than ten bytes.
 enum Read {
     Number(u64, usize),
     Bad,
