@@ -1,0 +1,9 @@
+use Rattle.replay.proofs.Zeros.{zeros}
+use Rattle.replay.proofs.list_room.Statement.{statement}
+use Rattle.replay.proofs.list_room.Tie as tie
+
+returns : tie.Need-returns
+returns c = zeros 1310720
+
+pub list-room-spec : {M : Type 1} → statement M
+list-room-spec = tie.close (tie.spec returns)

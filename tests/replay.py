@@ -1,0 +1,38 @@
+#!/usr/bin/env python3
+"""What the program `replay` must write, from the fixed list itself.
+
+usage: replay.py [--check]
+
+Writes crates/replay/stdout: a line for each case that is refused by 1, 2 or 3 (its number from 0, the refusal, the place), then the count of cases and
+of the refusals 1, 2 and 3. With --check it compares the file that is there.
+"""
+import pathlib, sys
+import vectors
+
+ROOT = pathlib.Path(__file__).resolve().parent.parent
+STDOUT = ROOT / "crates/replay/stdout"
+
+
+def text(cases):
+    refused = [c for c in cases if c.number in (1, 2, 3)]
+    lines = [f"{c.index} {c.number} {c.place}" for c in refused]
+    counts = [sum(1 for c in refused if c.number == n) for n in (1, 2, 3)]
+    lines.append(" ".join(str(n) for n in [len(cases)] + counts))
+    return "".join(line + "\n" for line in lines)
+
+
+def main():
+    cases = vectors.load(ROOT / "vectors/answers.bin")
+    want = text(cases)
+    if sys.argv[1:] == ["--check"]:
+        if STDOUT.read_text() != want:
+            raise SystemExit("replay: crates/replay/stdout is not what the fixed list says")
+        print(f"replay: crates/replay/stdout is what the fixed list says of its {len(cases)} cases")
+    elif not sys.argv[1:]:
+        STDOUT.write_text(want)
+    else:
+        raise SystemExit(__doc__)
+
+
+if __name__ == "__main__":
+    main()
