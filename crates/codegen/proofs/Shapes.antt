@@ -95,10 +95,10 @@ copy-part ctx dest src =
     yields (record { few = lit≤ tt; last = refl }))))
 
 -- a cast's source takes at most two records
-abbrev Brief : ℕ → Source → Type 0
+abbrev pub Brief : ℕ → Source → Type 0
 Brief n s = length (s .records) ≤ n
 
-source-brief : (ctx : Context) (x : IrOp) (n : ℕ) → Yields (castOperand ctx x n) (Brief 1)
+pub source-brief : (ctx : Context) (x : IrOp) (n : ℕ) → Yields (castOperand ctx x n) (Brief 1)
 unfolding castOperand
 source-brief ctx (IrOp.Var v) n = bind (any (convertVar ctx v)) (λ x p. yields (lit≤ tt))
 source-brief ctx (IrOp.Int v short unsigned) n =
