@@ -1,0 +1,16 @@
+use borrow.Author.Needs.{needs}
+use Rattle.casts.proofs.store_of.Statement.{statement}
+use Rattle.casts.proofs.store_of.Tie as tie
+
+returns : tie.Need-returns
+returns c = simp (c .if1 .taken)
+
+returns-2 : tie.Need-returns-2
+returns-2 c = simp (c .if1 .left)
+
+pub store-of-spec : {M : Type 1} → statement M
+store-of-spec =
+    tie.close
+    (tie.spec
+    returns
+    returns-2)

@@ -1,0 +1,25 @@
+use borrow.Author.Tests.{eq-eqb, ne-eqb}
+use borrow.Author.Needs.{needs}
+use Rattle.casts.proofs.to_float.Statement.{statement}
+use Rattle.casts.proofs.to_float.Tie as tie
+
+returns : tie.Need-returns
+returns c = simp (c .before .if1 .taken, eq-eqb _ _ (c .if2 .taken))
+
+returns-2 : tie.Need-returns-2
+returns-2 c = simp (c .before .if1 .taken, ne-eqb _ _ (c .if2 .left))
+
+returns-3 : tie.Need-returns-3
+returns-3 c = simp (c .before .if1 .left, eq-eqb _ _ (c .if3 .taken))
+
+returns-4 : tie.Need-returns-4
+returns-4 c = simp (c .before .if1 .left, ne-eqb _ _ (c .if3 .left))
+
+pub to-float-spec : {M : Type 1} → statement M
+to-float-spec =
+    tie.close
+    (tie.spec
+    returns
+    returns-2
+    returns-3
+    returns-4)
