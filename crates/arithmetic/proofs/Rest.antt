@@ -1,0 +1,141 @@
+-- What the arms of a `match` on a number leave.
+use Prim.Native.Nat.{ℕ, zero, suc, _≤_}
+use mathlib.Core.Path.{_≡_, refl, sym, _∙_}
+use mathlib.Core.List.{[]}
+use native.Mathlib.Omega.{arith}
+use borrow.Author.Tests.{ne-eqb}
+use Rattle.ir.specs.declared.VarId.{VarId}
+use Rattle.ir.specs.declared.Operand.{Operand as IrOp}
+use Rattle.ir.specs.Types.{refused}
+use Rattle.ir.specs.Function.{binaryOp}
+use Rattle.x86.specs.declared.enums.Size.{Size}
+use Rattle.x86.specs.declared.enums.BinOp.{BinOp}
+use Rattle.x86.specs.declared.enums.ConditionCode.{ConditionCode}
+use Rattle.x86.specs.Registers.{xmm, RDX}
+use Rattle.x86.specs.Records.{conditionCode}
+use Rattle.codegen.specs.Context.{Context}
+use Rattle.codegen.specs.Arithmetic.{division, unsignedCode, floatCode, compared, floatComparison, comparison, floatBinary, integerBinary}
+use Rattle.arithmetic.specs.Codes.{comparisonCode}
+
+-- the codes that no arm names
+pub kept-unsigned : (cc : ConditionCode) (k : ℕ) → k ≡ conditionCode cc → (k ≡ 0 → ⊥) → (k ≡ 1 → ⊥) → (k ≡ 2 → ⊥) → (k ≡ 3 → ⊥) → (k ≡ 4 → ⊥) → (k ≡ 5 → ⊥) → (k ≡ 6 → ⊥) → (k ≡ 7 → ⊥) → (k ≡ 8 → ⊥) → (k ≡ 9 → ⊥)
+    → cc ≡ unsignedCode cc
+unfolding unsignedCode
+kept-unsigned ConditionCode.E k e h0 h1 h2 h3 h4 h5 h6 h7 h8 h9 = absurd (h0 e)
+kept-unsigned ConditionCode.NE k e h0 h1 h2 h3 h4 h5 h6 h7 h8 h9 = absurd (h1 e)
+kept-unsigned ConditionCode.G k e h0 h1 h2 h3 h4 h5 h6 h7 h8 h9 = absurd (h2 e)
+kept-unsigned ConditionCode.GE k e h0 h1 h2 h3 h4 h5 h6 h7 h8 h9 = absurd (h3 e)
+kept-unsigned ConditionCode.L k e h0 h1 h2 h3 h4 h5 h6 h7 h8 h9 = absurd (h4 e)
+kept-unsigned ConditionCode.LE k e h0 h1 h2 h3 h4 h5 h6 h7 h8 h9 = absurd (h5 e)
+kept-unsigned ConditionCode.A k e h0 h1 h2 h3 h4 h5 h6 h7 h8 h9 = absurd (h6 e)
+kept-unsigned ConditionCode.AE k e h0 h1 h2 h3 h4 h5 h6 h7 h8 h9 = absurd (h7 e)
+kept-unsigned ConditionCode.B k e h0 h1 h2 h3 h4 h5 h6 h7 h8 h9 = absurd (h8 e)
+kept-unsigned ConditionCode.BE k e h0 h1 h2 h3 h4 h5 h6 h7 h8 h9 = absurd (h9 e)
+kept-unsigned ConditionCode.P k e h0 h1 h2 h3 h4 h5 h6 h7 h8 h9 = refl
+kept-unsigned ConditionCode.NP k e h0 h1 h2 h3 h4 h5 h6 h7 h8 h9 = refl
+
+pub kept-float : (cc : ConditionCode) (k : ℕ) → k ≡ conditionCode cc → (k ≡ 0 → ⊥) → (k ≡ 1 → ⊥) → (k ≡ 2 → ⊥) → (k ≡ 3 → ⊥) → (k ≡ 4 → ⊥) → (k ≡ 5 → ⊥)
+    → cc ≡ floatCode cc
+kept-float ConditionCode.E k e h0 h1 h2 h3 h4 h5 = absurd (h0 e)
+kept-float ConditionCode.NE k e h0 h1 h2 h3 h4 h5 = absurd (h1 e)
+kept-float ConditionCode.G k e h0 h1 h2 h3 h4 h5 = absurd (h2 e)
+kept-float ConditionCode.GE k e h0 h1 h2 h3 h4 h5 = absurd (h3 e)
+kept-float ConditionCode.L k e h0 h1 h2 h3 h4 h5 = absurd (h4 e)
+kept-float ConditionCode.LE k e h0 h1 h2 h3 h4 h5 = absurd (h5 e)
+kept-float ConditionCode.A k e h0 h1 h2 h3 h4 h5 = refl
+kept-float ConditionCode.AE k e h0 h1 h2 h3 h4 h5 = refl
+kept-float ConditionCode.B k e h0 h1 h2 h3 h4 h5 = refl
+kept-float ConditionCode.BE k e h0 h1 h2 h3 h4 h5 = refl
+kept-float ConditionCode.P k e h0 h1 h2 h3 h4 h5 = refl
+kept-float ConditionCode.NP k e h0 h1 h2 h3 h4 h5 = refl
+
+-- a float comparison that swaps no sides and asks no parity
+pub plain-float : (ctx : Context) (dest : VarId) (left right : IrOp) (size : Size) (cc : ConditionCode) (k : ℕ) → k ≡ conditionCode cc → (k ≡ 0 → ⊥) → (k ≡ 1 → ⊥) → (k ≡ 4 → ⊥) → (k ≡ 5 → ⊥)
+    → compared ctx dest (xmm 0) left (xmm 1) right size BinOp.UcomiF (floatCode cc) [] ≡ floatComparison ctx dest left right size cc
+unfolding floatComparison
+plain-float ctx dest left right size ConditionCode.E k e h0 h1 h4 h5 = absurd (h0 e)
+plain-float ctx dest left right size ConditionCode.NE k e h0 h1 h4 h5 = absurd (h1 e)
+plain-float ctx dest left right size ConditionCode.G k e h0 h1 h4 h5 = refl
+plain-float ctx dest left right size ConditionCode.GE k e h0 h1 h4 h5 = refl
+plain-float ctx dest left right size ConditionCode.L k e h0 h1 h4 h5 = absurd (h4 e)
+plain-float ctx dest left right size ConditionCode.LE k e h0 h1 h4 h5 = absurd (h5 e)
+plain-float ctx dest left right size ConditionCode.A k e h0 h1 h4 h5 = refl
+plain-float ctx dest left right size ConditionCode.AE k e h0 h1 h4 h5 = refl
+plain-float ctx dest left right size ConditionCode.B k e h0 h1 h4 h5 = refl
+plain-float ctx dest left right size ConditionCode.BE k e h0 h1 h4 h5 = refl
+plain-float ctx dest left right size ConditionCode.P k e h0 h1 h4 h5 = refl
+plain-float ctx dest left right size ConditionCode.NP k e h0 h1 h4 h5 = refl
+
+-- the code of Ge
+pub last-code : (op : ℕ) → (op ≡ 5 → ⊥) → (op ≡ 6 → ⊥) → (op ≡ 7 → ⊥) → (op ≡ 8 → ⊥) → (op ≡ 9 → ⊥) → ConditionCode.GE ≡ comparisonCode op
+unfolding comparisonCode
+last-code op h5 h6 h7 h8 h9 = rw (ne-eqb op 5 h5, ne-eqb op 6 h6, ne-eqb op 7 h7, ne-eqb op 8 h8, ne-eqb op 9 h9)
+
+-- no other operation is done on a float
+pub not-float : (ctx : Context) (dest : VarId) (left right : IrOp) (op : ℕ) → (op ≡ 13 → ⊥) → (op ≡ 14 → ⊥) → (op ≡ 15 → ⊥) → (op ≡ 16 → ⊥)
+    → refused 7 ≡ floatBinary ctx dest (binaryOp op) left right
+unfolding binaryOp
+not-float ctx dest left right zero h13 h14 h15 h16 = refl
+not-float ctx dest left right (suc zero) h13 h14 h15 h16 = refl
+not-float ctx dest left right (suc (suc zero)) h13 h14 h15 h16 = refl
+not-float ctx dest left right (suc (suc (suc zero))) h13 h14 h15 h16 = refl
+not-float ctx dest left right (suc (suc (suc (suc zero)))) h13 h14 h15 h16 = refl
+not-float ctx dest left right (suc (suc (suc (suc (suc zero))))) h13 h14 h15 h16 = refl
+not-float ctx dest left right (suc (suc (suc (suc (suc (suc zero)))))) h13 h14 h15 h16 = refl
+not-float ctx dest left right (suc (suc (suc (suc (suc (suc (suc zero))))))) h13 h14 h15 h16 = refl
+not-float ctx dest left right (suc (suc (suc (suc (suc (suc (suc (suc zero)))))))) h13 h14 h15 h16 = refl
+not-float ctx dest left right (suc (suc (suc (suc (suc (suc (suc (suc (suc zero))))))))) h13 h14 h15 h16 = refl
+not-float ctx dest left right (suc (suc (suc (suc (suc (suc (suc (suc (suc (suc zero)))))))))) h13 h14 h15 h16 = refl
+not-float ctx dest left right (suc (suc (suc (suc (suc (suc (suc (suc (suc (suc (suc zero))))))))))) h13 h14 h15 h16 = refl
+not-float ctx dest left right (suc (suc (suc (suc (suc (suc (suc (suc (suc (suc (suc (suc zero)))))))))))) h13 h14 h15 h16 = refl
+not-float ctx dest left right (suc (suc (suc (suc (suc (suc (suc (suc (suc (suc (suc (suc (suc zero))))))))))))) h13 h14 h15 h16 = absurd (h13 refl)
+not-float ctx dest left right (suc (suc (suc (suc (suc (suc (suc (suc (suc (suc (suc (suc (suc (suc zero)))))))))))))) h13 h14 h15 h16 = absurd (h14 refl)
+not-float ctx dest left right (suc (suc (suc (suc (suc (suc (suc (suc (suc (suc (suc (suc (suc (suc (suc zero))))))))))))))) h13 h14 h15 h16 = absurd (h15 refl)
+not-float ctx dest left right (suc (suc (suc (suc (suc (suc (suc (suc (suc (suc (suc (suc (suc (suc (suc (suc zero)))))))))))))))) h13 h14 h15 h16 = absurd (h16 refl)
+not-float ctx dest left right (suc (suc (suc (suc (suc (suc (suc (suc (suc (suc (suc (suc (suc (suc (suc (suc (suc zero))))))))))))))))) h13 h14 h15 h16 = refl
+not-float ctx dest left right (suc (suc (suc (suc (suc (suc (suc (suc (suc (suc (suc (suc (suc (suc (suc (suc (suc (suc n)))))))))))))))))) h13 h14 h15 h16 = refl
+
+-- the ranges of generate_binary: the logical pair, the comparisons, and what is left for the remainder
+pub logical : (ctx : Context) (dest : VarId) (left right : IrOp) (op : ℕ) → op ≤ 1 → refused 7 ≡ integerBinary ctx dest (binaryOp op) left right
+unfolding binaryOp
+logical ctx dest left right zero h = refl
+logical ctx dest left right (suc zero) h = refl
+logical ctx dest left right (suc (suc n)) h = absurd (omega arith)
+
+pub comparing : (ctx : Context) (dest : VarId) (left right : IrOp) (op : ℕ) → 5 ≤ op → op ≤ 10
+    → comparison ctx dest left right (comparisonCode op) ≡ integerBinary ctx dest (binaryOp op) left right
+unfolding binaryOp comparisonCode
+comparing ctx dest left right zero l h = absurd (omega arith)
+comparing ctx dest left right (suc zero) l h = absurd (omega arith)
+comparing ctx dest left right (suc (suc zero)) l h = absurd (omega arith)
+comparing ctx dest left right (suc (suc (suc zero))) l h = absurd (omega arith)
+comparing ctx dest left right (suc (suc (suc (suc zero)))) l h = absurd (omega arith)
+comparing ctx dest left right (suc (suc (suc (suc (suc zero))))) l h = refl
+comparing ctx dest left right (suc (suc (suc (suc (suc (suc zero)))))) l h = refl
+comparing ctx dest left right (suc (suc (suc (suc (suc (suc (suc zero))))))) l h = refl
+comparing ctx dest left right (suc (suc (suc (suc (suc (suc (suc (suc zero)))))))) l h = refl
+comparing ctx dest left right (suc (suc (suc (suc (suc (suc (suc (suc (suc zero))))))))) l h = refl
+comparing ctx dest left right (suc (suc (suc (suc (suc (suc (suc (suc (suc (suc zero)))))))))) l h = refl
+comparing ctx dest left right (suc (suc (suc (suc (suc (suc (suc (suc (suc (suc (suc n))))))))))) l h = absurd (omega arith)
+
+pub remainder : (ctx : Context) (dest : VarId) (left right : IrOp) (op : ℕ) → 17 ≤ op → division ctx dest left right RDX ≡ integerBinary ctx dest (binaryOp op) left right
+unfolding binaryOp
+remainder ctx dest left right zero h = absurd (omega arith)
+remainder ctx dest left right (suc zero) h = absurd (omega arith)
+remainder ctx dest left right (suc (suc zero)) h = absurd (omega arith)
+remainder ctx dest left right (suc (suc (suc zero))) h = absurd (omega arith)
+remainder ctx dest left right (suc (suc (suc (suc zero)))) h = absurd (omega arith)
+remainder ctx dest left right (suc (suc (suc (suc (suc zero))))) h = absurd (omega arith)
+remainder ctx dest left right (suc (suc (suc (suc (suc (suc zero)))))) h = absurd (omega arith)
+remainder ctx dest left right (suc (suc (suc (suc (suc (suc (suc zero))))))) h = absurd (omega arith)
+remainder ctx dest left right (suc (suc (suc (suc (suc (suc (suc (suc zero)))))))) h = absurd (omega arith)
+remainder ctx dest left right (suc (suc (suc (suc (suc (suc (suc (suc (suc zero))))))))) h = absurd (omega arith)
+remainder ctx dest left right (suc (suc (suc (suc (suc (suc (suc (suc (suc (suc zero)))))))))) h = absurd (omega arith)
+remainder ctx dest left right (suc (suc (suc (suc (suc (suc (suc (suc (suc (suc (suc zero))))))))))) h = absurd (omega arith)
+remainder ctx dest left right (suc (suc (suc (suc (suc (suc (suc (suc (suc (suc (suc (suc zero)))))))))))) h = absurd (omega arith)
+remainder ctx dest left right (suc (suc (suc (suc (suc (suc (suc (suc (suc (suc (suc (suc (suc zero))))))))))))) h = absurd (omega arith)
+remainder ctx dest left right (suc (suc (suc (suc (suc (suc (suc (suc (suc (suc (suc (suc (suc (suc zero)))))))))))))) h = absurd (omega arith)
+remainder ctx dest left right (suc (suc (suc (suc (suc (suc (suc (suc (suc (suc (suc (suc (suc (suc (suc zero))))))))))))))) h = absurd (omega arith)
+remainder ctx dest left right (suc (suc (suc (suc (suc (suc (suc (suc (suc (suc (suc (suc (suc (suc (suc (suc zero)))))))))))))))) h = absurd (omega arith)
+remainder ctx dest left right (suc (suc (suc (suc (suc (suc (suc (suc (suc (suc (suc (suc (suc (suc (suc (suc (suc zero))))))))))))))))) h = refl
+remainder ctx dest left right (suc (suc (suc (suc (suc (suc (suc (suc (suc (suc (suc (suc (suc (suc (suc (suc (suc (suc n)))))))))))))))))) h = refl
