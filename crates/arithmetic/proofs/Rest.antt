@@ -1,12 +1,13 @@
 -- What the arms of a `match` on a number leave.
-use Prim.Native.Nat.{ℕ, zero, suc, _≤_}
-use mathlib.Core.Path.{_≡_, refl, sym, _∙_}
+use Prim.Native.Nat.{ℕ, zero, suc, _≤_, _<_}
+use mathlib.Core.Path.{_≡_, refl, sym, ap, _∙_}
 use mathlib.Core.List.{[]}
+use mathlib.Core.Bool.{false}
 use native.Mathlib.Omega.{arith}
 use borrow.Author.Tests.{ne-eqb}
 use Rattle.ir.specs.declared.VarId.{VarId}
 use Rattle.ir.specs.declared.Operand.{Operand as IrOp}
-use Rattle.ir.specs.Types.{refused}
+use Rattle.ir.specs.Types.{refused, isFloat}
 use Rattle.ir.specs.Function.{binaryOp}
 use Rattle.x86.specs.declared.enums.Size.{Size}
 use Rattle.x86.specs.declared.enums.BinOp.{BinOp}
@@ -14,7 +15,7 @@ use Rattle.x86.specs.declared.enums.ConditionCode.{ConditionCode}
 use Rattle.x86.specs.Registers.{xmm, RDX}
 use Rattle.x86.specs.Records.{conditionCode}
 use Rattle.codegen.specs.Context.{Context}
-use Rattle.codegen.specs.Arithmetic.{division, unsignedCode, floatCode, compared, floatComparison, comparison, floatBinary, integerBinary}
+use Rattle.codegen.specs.Arithmetic.{division, unsignedCode, floatCode, parity, compared, floatComparison, comparison, floatBinary, integerBinary, generateBinary}
 use Rattle.arithmetic.specs.Codes.{comparisonCode}
 
 -- the codes that no arm names
@@ -95,47 +96,73 @@ not-float ctx dest left right (suc (suc (suc (suc (suc (suc (suc (suc (suc (suc 
 not-float ctx dest left right (suc (suc (suc (suc (suc (suc (suc (suc (suc (suc (suc (suc (suc (suc (suc (suc (suc zero))))))))))))))))) h13 h14 h15 h16 = refl
 not-float ctx dest left right (suc (suc (suc (suc (suc (suc (suc (suc (suc (suc (suc (suc (suc (suc (suc (suc (suc (suc n)))))))))))))))))) h13 h14 h15 h16 = refl
 
+-- the other float comparisons
+pub asks-even : (ctx : Context) (dest : VarId) (left right : IrOp) (size : Size) (cc code : ConditionCode) (k : ℕ)
+    → k ≡ conditionCode cc → k ≡ 0 → code ≡ floatCode cc → compared ctx dest (xmm 0) left (xmm 1) right size BinOp.UcomiF code (parity ConditionCode.NP BinOp.And) ≡ floatComparison ctx dest left right size cc
+unfolding floatComparison
+asks-even ctx dest left right size cc code k e h f = rw (f, sym e ∙ h)
+
+pub asks-odd : (ctx : Context) (dest : VarId) (left right : IrOp) (size : Size) (cc code : ConditionCode) (k : ℕ)
+    → k ≡ conditionCode cc → k ≡ 1 → code ≡ floatCode cc → compared ctx dest (xmm 0) left (xmm 1) right size BinOp.UcomiF code (parity ConditionCode.P BinOp.Or) ≡ floatComparison ctx dest left right size cc
+unfolding floatComparison
+asks-odd ctx dest left right size cc code k e h f = rw (f, sym e ∙ h)
+
+pub swaps-less : (ctx : Context) (dest : VarId) (left right : IrOp) (size : Size) (cc code : ConditionCode) (k : ℕ)
+    → k ≡ conditionCode cc → k ≡ 4 → code ≡ floatCode cc → compared ctx dest (xmm 0) right (xmm 1) left size BinOp.UcomiF code [] ≡ floatComparison ctx dest left right size cc
+unfolding floatComparison
+swaps-less ctx dest left right size cc code k e h f = rw (f, sym e ∙ h)
+
+pub swaps-most : (ctx : Context) (dest : VarId) (left right : IrOp) (size : Size) (cc code : ConditionCode) (k : ℕ)
+    → k ≡ conditionCode cc → k ≡ 5 → code ≡ floatCode cc → compared ctx dest (xmm 0) right (xmm 1) left size BinOp.UcomiF code [] ≡ floatComparison ctx dest left right size cc
+unfolding floatComparison
+swaps-most ctx dest left right size cc code k e h f = rw (f, sym e ∙ h)
+
 -- the ranges of generate_binary: the logical pair, the comparisons, and what is left for the remainder
-pub logical : (ctx : Context) (dest : VarId) (left right : IrOp) (op : ℕ) → op ≤ 1 → refused 7 ≡ integerBinary ctx dest (binaryOp op) left right
+pub logical : (ctx : Context) (dest : VarId) (left right : IrOp) (op : ℕ) → op < 2 → refused 7 ≡ integerBinary ctx dest (binaryOp op) left right
 unfolding binaryOp
 logical ctx dest left right zero h = refl
 logical ctx dest left right (suc zero) h = refl
 logical ctx dest left right (suc (suc n)) h = absurd (omega arith)
 
-pub comparing : (ctx : Context) (dest : VarId) (left right : IrOp) (op : ℕ) → 5 ≤ op → op ≤ 10
+pub comparing : (ctx : Context) (dest : VarId) (left right : IrOp) (op : ℕ) → 2 ≤ op → (op ≡ 2 → ⊥) → (op ≡ 3 → ⊥) → (op ≡ 4 → ⊥) → op < 11
     → comparison ctx dest left right (comparisonCode op) ≡ integerBinary ctx dest (binaryOp op) left right
 unfolding binaryOp comparisonCode
-comparing ctx dest left right zero l h = absurd (omega arith)
-comparing ctx dest left right (suc zero) l h = absurd (omega arith)
-comparing ctx dest left right (suc (suc zero)) l h = absurd (omega arith)
-comparing ctx dest left right (suc (suc (suc zero))) l h = absurd (omega arith)
-comparing ctx dest left right (suc (suc (suc (suc zero)))) l h = absurd (omega arith)
-comparing ctx dest left right (suc (suc (suc (suc (suc zero))))) l h = refl
-comparing ctx dest left right (suc (suc (suc (suc (suc (suc zero)))))) l h = refl
-comparing ctx dest left right (suc (suc (suc (suc (suc (suc (suc zero))))))) l h = refl
-comparing ctx dest left right (suc (suc (suc (suc (suc (suc (suc (suc zero)))))))) l h = refl
-comparing ctx dest left right (suc (suc (suc (suc (suc (suc (suc (suc (suc zero))))))))) l h = refl
-comparing ctx dest left right (suc (suc (suc (suc (suc (suc (suc (suc (suc (suc zero)))))))))) l h = refl
-comparing ctx dest left right (suc (suc (suc (suc (suc (suc (suc (suc (suc (suc (suc n))))))))))) l h = absurd (omega arith)
+comparing ctx dest left right zero l h2 h3 h4 h = absurd (omega arith)
+comparing ctx dest left right (suc zero) l h2 h3 h4 h = absurd (omega arith)
+comparing ctx dest left right (suc (suc zero)) l h2 h3 h4 h = absurd (h2 refl)
+comparing ctx dest left right (suc (suc (suc zero))) l h2 h3 h4 h = absurd (h3 refl)
+comparing ctx dest left right (suc (suc (suc (suc zero)))) l h2 h3 h4 h = absurd (h4 refl)
+comparing ctx dest left right (suc (suc (suc (suc (suc zero))))) l h2 h3 h4 h = refl
+comparing ctx dest left right (suc (suc (suc (suc (suc (suc zero)))))) l h2 h3 h4 h = refl
+comparing ctx dest left right (suc (suc (suc (suc (suc (suc (suc zero))))))) l h2 h3 h4 h = refl
+comparing ctx dest left right (suc (suc (suc (suc (suc (suc (suc (suc zero)))))))) l h2 h3 h4 h = refl
+comparing ctx dest left right (suc (suc (suc (suc (suc (suc (suc (suc (suc zero))))))))) l h2 h3 h4 h = refl
+comparing ctx dest left right (suc (suc (suc (suc (suc (suc (suc (suc (suc (suc zero)))))))))) l h2 h3 h4 h = refl
+comparing ctx dest left right (suc (suc (suc (suc (suc (suc (suc (suc (suc (suc (suc n))))))))))) l h2 h3 h4 h = absurd (omega arith)
 
-pub remainder : (ctx : Context) (dest : VarId) (left right : IrOp) (op : ℕ) → 17 ≤ op → division ctx dest left right RDX ≡ integerBinary ctx dest (binaryOp op) left right
+pub remainder : (ctx : Context) (dest : VarId) (left right : IrOp) (op : ℕ) → 11 ≤ op → (op ≡ 11 → ⊥) → (op ≡ 12 → ⊥) → (op ≡ 13 → ⊥) → (op ≡ 14 → ⊥) → (op ≡ 15 → ⊥) → (op ≡ 16 → ⊥)
+    → division ctx dest left right RDX ≡ integerBinary ctx dest (binaryOp op) left right
 unfolding binaryOp
-remainder ctx dest left right zero h = absurd (omega arith)
-remainder ctx dest left right (suc zero) h = absurd (omega arith)
-remainder ctx dest left right (suc (suc zero)) h = absurd (omega arith)
-remainder ctx dest left right (suc (suc (suc zero))) h = absurd (omega arith)
-remainder ctx dest left right (suc (suc (suc (suc zero)))) h = absurd (omega arith)
-remainder ctx dest left right (suc (suc (suc (suc (suc zero))))) h = absurd (omega arith)
-remainder ctx dest left right (suc (suc (suc (suc (suc (suc zero)))))) h = absurd (omega arith)
-remainder ctx dest left right (suc (suc (suc (suc (suc (suc (suc zero))))))) h = absurd (omega arith)
-remainder ctx dest left right (suc (suc (suc (suc (suc (suc (suc (suc zero)))))))) h = absurd (omega arith)
-remainder ctx dest left right (suc (suc (suc (suc (suc (suc (suc (suc (suc zero))))))))) h = absurd (omega arith)
-remainder ctx dest left right (suc (suc (suc (suc (suc (suc (suc (suc (suc (suc zero)))))))))) h = absurd (omega arith)
-remainder ctx dest left right (suc (suc (suc (suc (suc (suc (suc (suc (suc (suc (suc zero))))))))))) h = absurd (omega arith)
-remainder ctx dest left right (suc (suc (suc (suc (suc (suc (suc (suc (suc (suc (suc (suc zero)))))))))))) h = absurd (omega arith)
-remainder ctx dest left right (suc (suc (suc (suc (suc (suc (suc (suc (suc (suc (suc (suc (suc zero))))))))))))) h = absurd (omega arith)
-remainder ctx dest left right (suc (suc (suc (suc (suc (suc (suc (suc (suc (suc (suc (suc (suc (suc zero)))))))))))))) h = absurd (omega arith)
-remainder ctx dest left right (suc (suc (suc (suc (suc (suc (suc (suc (suc (suc (suc (suc (suc (suc (suc zero))))))))))))))) h = absurd (omega arith)
-remainder ctx dest left right (suc (suc (suc (suc (suc (suc (suc (suc (suc (suc (suc (suc (suc (suc (suc (suc zero)))))))))))))))) h = absurd (omega arith)
-remainder ctx dest left right (suc (suc (suc (suc (suc (suc (suc (suc (suc (suc (suc (suc (suc (suc (suc (suc (suc zero))))))))))))))))) h = refl
-remainder ctx dest left right (suc (suc (suc (suc (suc (suc (suc (suc (suc (suc (suc (suc (suc (suc (suc (suc (suc (suc n)))))))))))))))))) h = refl
+remainder ctx dest left right zero h h11 h12 h13 h14 h15 h16 = absurd (omega arith)
+remainder ctx dest left right (suc zero) h h11 h12 h13 h14 h15 h16 = absurd (omega arith)
+remainder ctx dest left right (suc (suc zero)) h h11 h12 h13 h14 h15 h16 = absurd (omega arith)
+remainder ctx dest left right (suc (suc (suc zero))) h h11 h12 h13 h14 h15 h16 = absurd (omega arith)
+remainder ctx dest left right (suc (suc (suc (suc zero)))) h h11 h12 h13 h14 h15 h16 = absurd (omega arith)
+remainder ctx dest left right (suc (suc (suc (suc (suc zero))))) h h11 h12 h13 h14 h15 h16 = absurd (omega arith)
+remainder ctx dest left right (suc (suc (suc (suc (suc (suc zero)))))) h h11 h12 h13 h14 h15 h16 = absurd (omega arith)
+remainder ctx dest left right (suc (suc (suc (suc (suc (suc (suc zero))))))) h h11 h12 h13 h14 h15 h16 = absurd (omega arith)
+remainder ctx dest left right (suc (suc (suc (suc (suc (suc (suc (suc zero)))))))) h h11 h12 h13 h14 h15 h16 = absurd (omega arith)
+remainder ctx dest left right (suc (suc (suc (suc (suc (suc (suc (suc (suc zero))))))))) h h11 h12 h13 h14 h15 h16 = absurd (omega arith)
+remainder ctx dest left right (suc (suc (suc (suc (suc (suc (suc (suc (suc (suc zero)))))))))) h h11 h12 h13 h14 h15 h16 = absurd (omega arith)
+remainder ctx dest left right (suc (suc (suc (suc (suc (suc (suc (suc (suc (suc (suc zero))))))))))) h h11 h12 h13 h14 h15 h16 = absurd (h11 refl)
+remainder ctx dest left right (suc (suc (suc (suc (suc (suc (suc (suc (suc (suc (suc (suc zero)))))))))))) h h11 h12 h13 h14 h15 h16 = absurd (h12 refl)
+remainder ctx dest left right (suc (suc (suc (suc (suc (suc (suc (suc (suc (suc (suc (suc (suc zero))))))))))))) h h11 h12 h13 h14 h15 h16 = absurd (h13 refl)
+remainder ctx dest left right (suc (suc (suc (suc (suc (suc (suc (suc (suc (suc (suc (suc (suc (suc zero)))))))))))))) h h11 h12 h13 h14 h15 h16 = absurd (h14 refl)
+remainder ctx dest left right (suc (suc (suc (suc (suc (suc (suc (suc (suc (suc (suc (suc (suc (suc (suc zero))))))))))))))) h h11 h12 h13 h14 h15 h16 = absurd (h15 refl)
+remainder ctx dest left right (suc (suc (suc (suc (suc (suc (suc (suc (suc (suc (suc (suc (suc (suc (suc (suc zero)))))))))))))))) h h11 h12 h13 h14 h15 h16 = absurd (h16 refl)
+remainder ctx dest left right (suc (suc (suc (suc (suc (suc (suc (suc (suc (suc (suc (suc (suc (suc (suc (suc (suc zero))))))))))))))))) h h11 h12 h13 h14 h15 h16 = refl
+remainder ctx dest left right (suc (suc (suc (suc (suc (suc (suc (suc (suc (suc (suc (suc (suc (suc (suc (suc (suc (suc n)))))))))))))))))) h h11 h12 h13 h14 h15 h16 = refl
+
+pub no-float : (ctx : Context) (dest : VarId) (left right : IrOp) (op : ℕ) → isFloat (dest .ty) ≡ false → integerBinary ctx dest (binaryOp op) left right ≡ generateBinary ctx dest (binaryOp op) left right
+unfolding generateBinary
+no-float ctx dest left right op f = rw (f)

@@ -3,7 +3,7 @@ use Rattle.arithmetic.proofs.binary.Statement.{statement}
 use Rattle.arithmetic.proofs.binary.Tie as tie
 
 returns : tie.Need-returns
-returns c = ?
+returns c = search needs
 
 pub binary-spec : {M : Type 1} → statement M
 binary-spec =

@@ -3,7 +3,7 @@ use Rattle.arithmetic.proofs.divided.Statement.{statement}
 use Rattle.arithmetic.proofs.divided.Tie as tie
 
 returns : tie.Need-returns
-returns c = ?
+returns c = search needs
 
 pub divided-spec : {M : Type 1} → statement M
 divided-spec =

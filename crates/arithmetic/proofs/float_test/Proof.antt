@@ -3,7 +3,7 @@ use Rattle.arithmetic.proofs.float_test.Statement.{statement}
 use Rattle.arithmetic.proofs.float_test.Tie as tie
 
 returns : tie.Need-returns
-returns c = ?
+returns c = search needs
 
 pub float-test-spec : {M : Type 1} → statement M
 float-test-spec =

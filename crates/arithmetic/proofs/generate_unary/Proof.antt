@@ -1,99 +1,108 @@
+use Rattle.codegen.specs.Arithmetic.{generateUnary}
+use Rattle.records.specs.Records.{recordsOf}
 use borrow.Author.Needs.{needs}
 use Rattle.arithmetic.proofs.generate_unary.Statement.{statement}
 use Rattle.arithmetic.proofs.generate_unary.Tie as tie
 
 var-size-requires : tie.Need-var-size-requires
-var-size-requires c κs = ?
+var-size-requires c κs = search needs
 
 enum-known-size : tie.Need-enum-known-size
-enum-known-size c = ?
+enum-known-size c = search needs
 
 enum-known-n : tie.Need-enum-known-n
-enum-known-n c = ?
+enum-known-n c = search needs
 
 returns : tie.Need-returns
-returns c = ?
+unfolding generateUnary recordsOf
+returns c = simp (← c .before .before .before .var-size .ensures, c .before .n .given .1)
 
 load-operand-requires : tie.Need-load-operand-requires
-load-operand-requires c κs = ?
+load-operand-requires c κs = search needs
 
 enum-known-load : tie.Need-enum-known-load
-enum-known-load c = ?
+enum-known-load c = search needs
 
 enum-known-n-2 : tie.Need-enum-known-n-2
-enum-known-n-2 c = ?
+enum-known-n-2 c = search needs
 
 returns-2 : tie.Need-returns-2
-returns-2 c = ?
+unfolding generateUnary recordsOf
+returns-2 c = simp (← c .before .before .before .before .before .before .before .var-size .ensures, c .before .before .before .before .before .size .given .1, ← c .before .before .before .load-operand .ensures, c .before .n2 .given .1)
 
 convert-var-requires : tie.Need-convert-var-requires
-convert-var-requires c κs = ?
+convert-var-requires c κs = search needs
 
 enum-known-var : tie.Need-enum-known-var
-enum-known-var c = ?
+enum-known-var c = search needs
 
 mov-requires : tie.Need-mov-requires
-mov-requires c κs = ?
+mov-requires c κs = search needs
 
 enum-known-n-3 : tie.Need-enum-known-n-3
-enum-known-n-3 c = ?
+enum-known-n-3 c = search needs
 
 returns-3 : tie.Need-returns-3
-returns-3 c = ?
+unfolding generateUnary recordsOf
+returns-3 c = simp (← c .before .before .before .before .before .before .before .before .before .before .before .var-size .ensures, c .before .before .before .before .before .before .before .before .before .size .given .1, ← c .before .before .before .before .before .before .before .load-operand .ensures, c .before .before .before .before .before .load .given .1, ← c .before .before .before .convert-var .ensures, c .before .n3 .given .1)
 
 enum-told : tie.Need-enum-told
-enum-told c = ?
+enum-told c = search needs
 
 is-float-requires : tie.Need-is-float-requires
-is-float-requires c κs = ?
+is-float-requires c κs = search needs
 
 sign-bit-requires : tie.Need-sign-bit-requires
-sign-bit-requires c κs = ?
+sign-bit-requires c κs = search needs
 
 mov-requires-2 : tie.Need-mov-requires-2
-mov-requires-2 c κs = ?
+mov-requires-2 c κs = search needs
 
 binary-requires : tie.Need-binary-requires
-binary-requires c κs = ?
+binary-requires c κs = search needs
 
 four-requires : tie.Need-four-requires
-four-requires c κs = ?
+four-requires c κs = search needs
 
 unary-requires : tie.Need-unary-requires
-unary-requires c κs = ?
+unary-requires c κs = search needs
 
 three-requires : tie.Need-three-requires
-three-requires c κs = ?
+three-requires c κs = search needs
 
 enum-told-2 : tie.Need-enum-told-2
-enum-told-2 c = ?
+enum-told-2 c = search needs
 
 unary-requires-2 : tie.Need-unary-requires-2
-unary-requires-2 c κs = ?
+unary-requires-2 c κs = search needs
 
 three-requires-2 : tie.Need-three-requires-2
-three-requires-2 c κs = ?
+three-requires-2 c κs = search needs
 
 enum-told-3 : tie.Need-enum-told-3
-enum-told-3 c = ?
+enum-told-3 c = search needs
 
 binary-requires-2 : tie.Need-binary-requires-2
-binary-requires-2 c κs = ?
+binary-requires-2 c κs = search needs
 
 three-requires-3 : tie.Need-three-requires-3
-three-requires-3 c κs = ?
+three-requires-3 c κs = search needs
 
 returns-4 : tie.Need-returns-4
-returns-4 c = ?
+unfolding generateUnary recordsOf
+returns-4 c = simp (← c .before .before .before .before .before .before .before .before .before .before .before .before .before .before .before .before .before .before .before .before .before .var-size .ensures, c .before .before .before .before .before .before .before .before .before .before .before .before .before .before .before .before .before .before .before .size .given .1, ← c .before .before .before .before .before .before .before .before .before .before .before .before .before .before .before .before .before .load-operand .ensures, c .before .before .before .before .before .before .before .before .before .before .before .before .before .before .before .load .given .1, ← c .before .before .before .before .before .before .before .before .before .before .before .before .before .convert-var .ensures, c .before .before .before .before .before .before .before .before .before .before .before .var .given .1, ← c .before .before .before .before .before .before .before .before .before .mov .ensures, c .before .before .before .before .before .before .enum-told .given .1, ← c .before .before .before .before .before .is-float .ensures, c .before .before .before .before .if1 .taken, ← c .before .before .before .sign-bit .ensures, ← c .before .before .mov2 .ensures, ← c .before .binary .ensures, c .four .ensures)
 
 returns-5 : tie.Need-returns-5
-returns-5 c = ?
+unfolding generateUnary recordsOf
+returns-5 c = simp (← c .before .before .before .before .before .before .before .before .before .before .before .before .before .before .before .before .before .before .before .var-size .ensures, c .before .before .before .before .before .before .before .before .before .before .before .before .before .before .before .before .before .size .given .1, ← c .before .before .before .before .before .before .before .before .before .before .before .before .before .before .before .load-operand .ensures, c .before .before .before .before .before .before .before .before .before .before .before .before .before .load .given .1, ← c .before .before .before .before .before .before .before .before .before .before .before .convert-var .ensures, c .before .before .before .before .before .before .before .before .before .var .given .1, ← c .before .before .before .before .before .before .before .mov .ensures, c .before .before .before .before .enum-told .given .1, ← c .before .before .before .is-float .ensures, c .before .before .if1 .left, ← c .before .unary .ensures, c .three .ensures)
 
 returns-6 : tie.Need-returns-6
-returns-6 c = ?
+unfolding generateUnary recordsOf
+returns-6 c = simp (← c .before .before .before .before .before .before .before .before .before .before .before .before .before .before .before .before .before .var-size .ensures, c .before .before .before .before .before .before .before .before .before .before .before .before .before .before .before .size .given .1, ← c .before .before .before .before .before .before .before .before .before .before .before .before .before .load-operand .ensures, c .before .before .before .before .before .before .before .before .before .before .before .load .given .1, ← c .before .before .before .before .before .before .before .before .before .convert-var .ensures, c .before .before .before .before .before .before .before .var .given .1, ← c .before .before .before .before .before .mov .ensures, c .before .before .enum-told2 .given .1, ← c .before .unary2 .ensures, c .three2 .ensures)
 
 returns-7 : tie.Need-returns-7
-returns-7 c = ?
+unfolding generateUnary recordsOf
+returns-7 c = simp (← c .before .before .before .before .before .before .before .before .before .before .before .before .before .before .before .before .before .var-size .ensures, c .before .before .before .before .before .before .before .before .before .before .before .before .before .before .before .size .given .1, ← c .before .before .before .before .before .before .before .before .before .before .before .before .before .load-operand .ensures, c .before .before .before .before .before .before .before .before .before .before .before .load .given .1, ← c .before .before .before .before .before .before .before .before .before .convert-var .ensures, c .before .before .before .before .before .before .before .var .given .1, ← c .before .before .before .before .before .mov .ensures, c .before .before .enum-told3 .given .1, ← c .before .binary2 .ensures, c .three3 .ensures)
 
 pub generate-unary-spec : {M : Type 1} → statement M
 generate-unary-spec =

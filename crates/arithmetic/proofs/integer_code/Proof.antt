@@ -3,13 +3,13 @@ use Rattle.arithmetic.proofs.integer_code.Statement.{statement}
 use Rattle.arithmetic.proofs.integer_code.Tie as tie
 
 unsigned-code-requires : tie.Need-unsigned-code-requires
-unsigned-code-requires c κs = ?
+unsigned-code-requires c κs = search needs
 
 returns : tie.Need-returns
-returns c = ?
+returns c = simp (c .before .if1 .taken, c .unsigned-code .ensures)
 
 returns-2 : tie.Need-returns-2
-returns-2 c = ?
+returns-2 c = simp (c .if1 .left)
 
 pub integer-code-spec : {M : Type 1} → statement M
 integer-code-spec =

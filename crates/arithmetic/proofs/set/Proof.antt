@@ -3,7 +3,7 @@ use Rattle.arithmetic.proofs.set.Statement.{statement}
 use Rattle.arithmetic.proofs.set.Tie as tie
 
 returns : tie.Need-returns
-returns c = ?
+returns c = search needs
 
 pub set-spec : {M : Type 1} → statement M
 set-spec =

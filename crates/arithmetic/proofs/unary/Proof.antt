@@ -3,7 +3,7 @@ use Rattle.arithmetic.proofs.unary.Statement.{statement}
 use Rattle.arithmetic.proofs.unary.Tie as tie
 
 returns : tie.Need-returns
-returns c = ?
+returns c = search needs
 
 pub unary-spec : {M : Type 1} → statement M
 unary-spec =
