@@ -1,21 +1,27 @@
 -- What the arms of a `match` on a number leave.
 use Prim.Native.Nat.{ℕ, zero, suc, _≤_, _<_}
 use mathlib.Core.Path.{_≡_, refl, sym, ap, _∙_}
-use mathlib.Core.List.{[]}
-use mathlib.Core.Bool.{false}
+use mathlib.Core.List.{[], _∷_}
+use mathlib.Core.Bool.{Bool, true, false, cond}
 use native.Mathlib.Omega.{arith}
 use borrow.Author.Tests.{ne-eqb}
 use Rattle.ir.specs.declared.VarId.{VarId}
 use Rattle.ir.specs.declared.Operand.{Operand as IrOp}
-use Rattle.ir.specs.Types.{refused, isFloat}
+use Rattle.ir.specs.declared.UnaryOp.{UnaryOp as IrUnary}
+use Rattle.ir.specs.Types.{ok, refused, isFloat}
 use Rattle.ir.specs.Function.{binaryOp}
 use Rattle.x86.specs.declared.enums.Size.{Size}
 use Rattle.x86.specs.declared.enums.BinOp.{BinOp}
 use Rattle.x86.specs.declared.enums.ConditionCode.{ConditionCode}
-use Rattle.x86.specs.Registers.{xmm, RDX}
-use Rattle.x86.specs.Records.{conditionCode}
+use Rattle.x86.specs.declared.enums.Operand.{Operand}
+use Rattle.x86.specs.declared.enums.Instruction.{Instruction}
+use Rattle.x86.specs.Registers.{xmm, RAX, RCX, RDX}
+use Rattle.x86.specs.Records.{conditionCode, recordOf}
 use Rattle.codegen.specs.Context.{Context}
-use Rattle.codegen.specs.Arithmetic.{division, unsignedCode, floatCode, parity, compared, floatComparison, comparison, floatBinary, integerBinary, generateBinary}
+use Rattle.codegen.specs.Arithmetic.{division, unsignedCode, floatCode, parity, compared, floatComparison, comparison, floatBinary, integerBinary, generateBinary, signBit, generateUnary}
+use Rattle.codegen.specs.Utils.{sizeFrom, varSize, convertVar, loadOperand}
+use Rattle.codegen.specs.Instructions.{move, kind, operandKind}
+use Rattle.records.specs.Records.{recordsOf, encoded}
 use Rattle.arithmetic.specs.Codes.{comparisonCode}
 
 -- the codes that no arm names
@@ -166,3 +172,23 @@ remainder ctx dest left right (suc (suc (suc (suc (suc (suc (suc (suc (suc (suc 
 pub no-float : (ctx : Context) (dest : VarId) (left right : IrOp) (op : ℕ) → isFloat (dest .ty) ≡ false → integerBinary ctx dest (binaryOp op) left right ≡ generateBinary ctx dest (binaryOp op) left right
 unfolding generateBinary
 no-float ctx dest left right op f = rw (f)
+
+-- a comparison of integers, by what its look-ups found
+pub plain-comparison : (ctx : Context) (dest : VarId) (left right : IrOp) (cc code : ConditionCode) (size : Size) (n : ℕ) (f u : Bool)
+    → operandKind ctx left ≡ ok (kind n f u) → sizeFrom n ≡ ok size → f ≡ false → code ≡ cond u (unsignedCode cc) cc
+    → compared ctx dest RAX left RCX right size BinOp.Cmp code [] ≡ comparison ctx dest left right cc
+unfolding comparison
+plain-comparison ctx dest left right cc code size n f u k s z e = rw (k, s, z, e)
+
+-- -x of a float, by what its look-ups found
+pub negates-float : (ctx : Context) (dest : VarId) (op : IrUnary) (src : IrOp) (size : Size) (load : Instruction) (var : Operand) (bit : ℕ) (b c d : Instruction)
+    → varSize dest ≡ ok size → loadOperand ctx RAX src size ≡ ok load → convertVar ctx dest ≡ ok var → op ≡ IrUnary.Neg → isFloat (dest .ty) ≡ true
+    → bit ≡ signBit size → b ≡ move (Operand.Reg RCX) (Operand.Imm bit) size
+    → c ≡ Instruction.Binary BinOp.Xor (Operand.Reg RAX) (Operand.Reg RCX) size → d ≡ move var (Operand.Reg RAX) size
+    → ok (load ∷ b ∷ c ∷ d ∷ []) ≡ generateUnary ctx dest op src
+unfolding generateUnary
+negates-float ctx dest op src size load var bit b c d s l v o f hbit hb hc hd = rw (hb, hbit, hc, hd, s, l, v, o, f)
+
+pub four-records : (a b c d : Instruction) → ok (recordOf a ∷ recordOf b ∷ recordOf c ∷ recordOf d ∷ []) ≡ encoded (ok (a ∷ b ∷ c ∷ d ∷ []))
+unfolding recordsOf
+four-records a b c d = refl

@@ -1,3 +1,8 @@
+use Rattle.arithmetic.proofs.Rest.{plain-comparison}
+use Rattle.utils.specs.Answers.{sizedSays}
+use Rattle.instructions.specs.Says.{kindedSays}
+use Rattle.records.specs.Records.{encoded}
+use mathlib.Core.Path.{ap, _∙_, sym}
 use Rattle.codegen.specs.Arithmetic.{comparison}
 use borrow.Author.Needs.{needs}
 use Rattle.arithmetic.proofs.comparison.Statement.{statement}
@@ -43,8 +48,12 @@ compared-requires : tie.Need-compared-requires
 compared-requires c κs = search needs
 
 returns-4 : tie.Need-returns-4
-unfolding comparison
-returns-4 c = simp (← c .before .before .before .before .before .before .before .before .before .before .operand-kind .ensures, c .before .before .before .before .before .before .before .before .kind .given .1, ← c .before .before .before .before .before .before .size-from .ensures, c .before .before .before .before .size .given .1, c .before .before .if1 .left, ← c .before .integer-code .ensures, c .compared .ensures)
+returns-4 c =
+    c .compared .ensures
+    ∙ ap encoded (plain-comparison _ _ _ _ _ _ _ _ _ _
+    (sym (c .before .before .before .before .before .before .before .before .before .before .operand-kind .ensures) ∙ ap kindedSays (c .before .before .before .before .before .before .before .before .kind .given .1))
+    (sym (c .before .before .before .before .before .before .size-from .ensures) ∙ ap sizedSays (c .before .before .before .before .size .given .1))
+    (c .before .before .if1 .left) (c .before .integer-code .ensures))
 
 pub comparison-spec : {M : Type 1} → statement M
 comparison-spec =

@@ -1,3 +1,7 @@
+use Rattle.arithmetic.proofs.Rest.{negates-float, four-records}
+use Rattle.utils.specs.Answers.{sizedSays, loadedSays, placedSays}
+use Rattle.records.specs.Records.{encoded}
+use mathlib.Core.Path.{ap, _∙_, sym}
 use Rattle.codegen.specs.Arithmetic.{generateUnary}
 use Rattle.records.specs.Records.{recordsOf}
 use borrow.Author.Needs.{needs}
@@ -89,8 +93,16 @@ three-requires-3 : tie.Need-three-requires-3
 three-requires-3 c κs = search needs
 
 returns-4 : tie.Need-returns-4
-unfolding generateUnary recordsOf
-returns-4 c = simp (← c .before .before .before .before .before .before .before .before .before .before .before .before .before .before .before .before .before .before .before .before .before .var-size .ensures, c .before .before .before .before .before .before .before .before .before .before .before .before .before .before .before .before .before .before .before .size .given .1, ← c .before .before .before .before .before .before .before .before .before .before .before .before .before .before .before .before .before .load-operand .ensures, c .before .before .before .before .before .before .before .before .before .before .before .before .before .before .before .load .given .1, ← c .before .before .before .before .before .before .before .before .before .before .before .before .before .convert-var .ensures, c .before .before .before .before .before .before .before .before .before .before .before .var .given .1, ← c .before .before .before .before .before .before .before .before .before .mov .ensures, c .before .before .before .before .before .before .enum-told .given .1, ← c .before .before .before .before .before .is-float .ensures, c .before .before .before .before .if1 .taken, ← c .before .before .before .sign-bit .ensures, ← c .before .before .mov2 .ensures, ← c .before .binary .ensures, c .four .ensures)
+returns-4 c =
+    c .four .ensures
+    ∙ four-records _ _ _ _
+    ∙ ap encoded (negates-float _ _ _ _ _ _ _ _ _ _ _
+    (sym (c .before .before .before .before .before .before .before .before .before .before .before .before .before .before .before .before .before .before .before .before .before .var-size .ensures) ∙ ap sizedSays (c .before .before .before .before .before .before .before .before .before .before .before .before .before .before .before .before .before .before .before .size .given .1))
+    (sym (c .before .before .before .before .before .before .before .before .before .before .before .before .before .before .before .before .before .load-operand .ensures) ∙ ap loadedSays (c .before .before .before .before .before .before .before .before .before .before .before .before .before .before .before .load .given .1))
+    (sym (c .before .before .before .before .before .before .before .before .before .before .before .before .before .convert-var .ensures) ∙ ap placedSays (c .before .before .before .before .before .before .before .before .before .before .before .var .given .1))
+    (c .before .before .before .before .before .before .enum-told .given .1)
+    (sym (c .before .before .before .before .before .is-float .ensures) ∙ c .before .before .before .before .if1 .taken)
+    (c .before .before .before .sign-bit .ensures) (c .before .before .mov2 .ensures) (c .before .binary .ensures) (c .before .before .before .before .before .before .before .before .before .mov .ensures))
 
 returns-5 : tie.Need-returns-5
 unfolding generateUnary recordsOf
