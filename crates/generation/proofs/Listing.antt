@@ -99,16 +99,16 @@ pub list-is : (tables offsets : List ℕ) (bytes : ℕ) (s : List ℕ) {n m : �
 unfolding listOf
 list-is tables offsets bytes s e f = rw (e, f) refl
 
-recordsIn : Outcome Count → ℕ
+abbrev recordsIn : Outcome Count → ℕ
 recordsIn (accepted c) = c .records
 recordsIn (refused n place) = 0
 
-retIn : Outcome Count → Bool
+abbrev retIn : Outcome Count → Bool
 retIn (accepted c) = c .ret
 retIn (refused n place) = false
 
 module _ (p : Result (List Instruction)) (b whole : Outcome (List Instruction)) (e : joined p b ≡ whole) (old : List ℕ) where
-  Done : Outcome ℕ → List ℕ → Outcome (List Instruction) → Type 0
+  abbrev Done : Outcome ℕ → List ℕ → Outcome (List Instruction) → Type 0
   Done x new w = (x ≡ countedOutcome w) × PutList 0 w old new
 
   pub first-refused : {n : ℕ} (new : List ℕ) → types.refused n ≡ counted p → PutAll 0 p old new → (refused n 0 ≡ countedOutcome whole) × PutList 0 whole old new
@@ -126,7 +126,7 @@ module _ (p : Result (List Instruction)) (b whole : Outcome (List Instruction)) 
         go : (p : Result (List Instruction)) (b : Outcome (List Instruction)) → ok x ≡ counted p → PutAll 0 p old mid → refused n i ≡ countedBody b → PutList (64 * x) b mid new →
             Done (refused n i) new (joined p b)
         go (ok xs) (accepted ys) c u d v = absurd (outcomes.never d)
-        go (ok xs) (refused m j) c u d v = let l : refused n i ≡ refused {A = ℕ} m j = let z = d in cc in (l, v ∙ u .long)
+        go (ok xs) (refused m j) c u d v = let l : _≡_ {A = Outcome ℕ} (refused n i) (refused m j) = let z = d in cc in (l, v ∙ u .long)
         go (types.refused m) b c u d v = absurd (never (sym c))
 
     pub all-made : Yields p Short → {y r : ℕ} {ret : Bool} (late new : List ℕ) → accepted (record { records = y; ret = ret }) ≡ countedBody b → PutList (64 * x) b mid late →

@@ -7,6 +7,7 @@ use native.Mathlib.Omega.{arith}
 use borrow.Author.Tests.{lt-ltb, le-ltb}
 use lib.ListN.{length, take, drop}
 use lib.Dec.{ltb}
+use lib.Seq.{length-take-le}
 use Rattle.cells.specs.Cells.{cellAt, write}
 use Rattle.layout.specs.declared.Checked.{Checked}
 use Rattle.layout.specs.Layout.{tablesCheck, sheetCheck}
@@ -29,7 +30,8 @@ use Rattle.utils.specs.Parts.{Put}
 use Rattle.utils.proofs.Emitted.{listBytes-length}
 use Rattle.generation.specs.declared.Answer.{Answer}
 use Rattle.generation.specs.Answers.{answerSays, countedOutcome}
-use Rattle.generation.specs.Pass.{PutList, Lends, bodyOf, listOf, pagedOf, frameOf, prepared}
+use Rattle.generation.proofs.Walk.{has-vars}
+use Rattle.generation.specs.Pass.{PutList, Lends, bodyOf, listOf, frameOf, prepared}
 
 -- ---- the offsets
 
@@ -86,11 +88,11 @@ module _ (tables s : List ℕ) where
       go (Checked.Refused n k) u e = absurd (outcomes.never (sym e))
 
   generated-not : {n place : ℕ} → refused n place ≡ frameOf s → refused n place ≡ generate (tablesOf tables) (functionOf s)
-  unfolding frameOf varOffsets generate functionOf
+  unfolding frameOf varOffsets generate functionOf listOf bodyOf
   generated-not {n} {place} = go (widths s)
     where
       go : (b : Bool) → refused n place ≡ (at 0 (cond b (ok (offsetsFrom 0 (varsOf s))) (types.refused 4)) >>= λ offsets. accepted (frame (varsOf s))) →
-          {f : List ℕ → Outcome (List Instruction)} → refused n place ≡ (at 0 (cond b (ok (offsetsFrom 0 (varsOf s))) (types.refused 4)) >>= f)
+          refused n place ≡ (at 0 (cond b (ok (offsetsFrom 0 (varsOf s))) (types.refused 4)) >>= λ offsets. listOf tables offsets (frame (varsOf s)) s)
       go true e = absurd (outcomes.never e)
       go false e = let z = e in cc
 
@@ -103,6 +105,10 @@ module _ (tables s : List ℕ) where
       go (Checked.Behind c) (Checked.Behind d) e = generated-not e
       go (Checked.Behind c) (Checked.Refused m k) e = let z = e in cc
       go (Checked.Refused m k) u e = let z = e in cc
+
+-- as many offsets are lent as there are variables
+pub lent-long : {s offsets : List ℕ} {n : ℕ} → Lends s offsets → n ≡ cellAt s 0 → n ≡ length (take n offsets)
+lent-long {s} {offsets} {n} l e = sym (length-take-le n offsets (omega (arith, l .long, has-vars (l .laid))))
 
 -- ---- page full
 

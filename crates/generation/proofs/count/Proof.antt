@@ -5,7 +5,7 @@ use lib.ListN.{length-replicate}
 use Rattle.generation.specs.Answers.{countedOutcome}
 use Rattle.generation.specs.Pass.{readySays}
 use Rattle.generation.proofs.Walk.{has-header, has-vars}
-use Rattle.generation.proofs.Lowering.{not-ready, ready}
+use Rattle.generation.proofs.Lowering.{lent-long, not-ready, ready}
 use borrow.Author.Needs.{needs}
 use Rattle.generation.proofs.count.Statement.{statement}
 use Rattle.generation.proofs.count.Tie as tie
@@ -35,7 +35,9 @@ array-share-prefix-offsets c =
     omega (arith, has-vars (l .laid), l .long, c .cell-at .ensures)
 
 slice-aggregate-pass : tie.Need-slice-aggregate-pass
-slice-aggregate-pass c = search needs
+slice-aggregate-pass c =
+    let l = rw (c .before .before .before .bytes .given .1) at (c .before .before .before .before .before .prepare .ensures .1) in
+    lent-long l (c .before .cell-at .ensures)
 
 slice-aggregate-pass-2 : tie.Need-slice-aggregate-pass-2
 slice-aggregate-pass-2 c = search needs

@@ -5,7 +5,7 @@ use lib.ListN.{length-replicate}
 use Rattle.codegen.specs.Generation.{refused}
 use Rattle.generation.specs.Pass.{readySays}
 use Rattle.generation.proofs.Walk.{has-header, has-vars}
-use Rattle.generation.proofs.Lowering.{not-ready, ready, paged-refused, left-lowered, obeying, simulating}
+use Rattle.generation.proofs.Lowering.{lent-long, not-ready, ready, paged-refused, left-lowered, obeying, simulating}
 use borrow.Author.Needs.{needs}
 use Rattle.generation.proofs.generate.Statement.{statement}
 use Rattle.generation.proofs.generate.Tie as tie
@@ -40,7 +40,9 @@ array-share-prefix-offsets c =
     omega (arith, has-vars (l .laid), l .long, c .cell-at .ensures)
 
 slice-aggregate-write-list : tie.Need-slice-aggregate-write-list
-slice-aggregate-write-list c = search needs
+slice-aggregate-write-list c =
+    let l = rw (c .before .before .before .bytes .given .1) at (c .before .before .before .before .before .prepare .ensures .1) in
+    lent-long l (c .before .cell-at .ensures)
 
 write-list-requires : tie.Need-write-list-requires
 write-list-requires c κs =

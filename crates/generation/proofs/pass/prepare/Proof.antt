@@ -1,4 +1,4 @@
-use mathlib.Core.Path.{sym, _∙_}
+use mathlib.Core.Path.{refl, sym, _∙_}
 use Rattle.generation.specs.Pass.{prepared}
 use Rattle.generation.proofs.Walk.{laid-from}
 use borrow.Author.Needs.{needs}
@@ -13,7 +13,7 @@ enum-known-number c = search needs
 
 returns : tie.Need-returns
 unfolding prepared
-returns c = simp (← c .before .before .before .tables-check .ensures, c .before .number .given .1)
+returns c = simp (← c .before .before .before .tables-check .ensures, c .before .number .given .1) (refl, tt)
 
 enum-told : tie.Need-enum-told
 enum-told c = search needs
@@ -26,7 +26,7 @@ enum-known-number-2 c = search needs
 
 returns-2 : tie.Need-returns-2
 unfolding prepared
-returns-2 c = simp (← c .before .before .before .before .before .before .tables-check .ensures, c .before .before .before .before .enum-told .given .1, ← c .before .before .before .sheet-check .ensures, c .before .number2 .given .1)
+returns-2 c = simp (← c .before .before .before .before .before .before .tables-check .ensures, c .before .before .before .before .enum-told .given .1, ← c .before .before .before .sheet-check .ensures, c .before .number2 .given .1) (refl, tt)
 
 enum-told-2 : tie.Need-enum-told-2
 enum-told-2 c = search needs
