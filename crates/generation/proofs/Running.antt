@@ -160,8 +160,8 @@ module _ {ctx : Context} {labels : ℕ} {ret : IrType} {s : List ℕ} {whole : O
             let l : n ≡ m = let z = c in cc in
             let ls = linesAt s (left - 1) (behind s cell) in
             let w : refused n i ≡ whole =
-                ap (λ (k : ℕ). refused k i) l ∙ ap (before (g .done)) (sym (no-more ctx labels ret i (lineAt s cell) ls m e))
-                ∙ ap (λ (b : List Line). before (g .done) (generateBody ctx labels ret i b)) (sym (lines-more s left cell h)) ∙ g .is in
+            ap (λ (k : ℕ). refused k i) l ∙ ap (before (g .done)) (sym (no-more ctx labels ret i (lineAt s cell) ls m e))
+            ∙ ap (λ (b : List Line). before (g .done) (generateBody ctx labels ret i b)) (sym (lines-more s left cell h)) ∙ g .is in
             (ap countedBody w, subst (λ (r : Outcome (List Instruction)). PutList (64 * first) r old newer) w (u ∙ g .put .long))
 
   pub all-run : left ≤ 0 → (accepted (record { records = made; ret = last }) ≡ countedBody whole) × PutList (64 * first) whole old new

@@ -51,7 +51,6 @@ pub record Walk (s : List ℕ) (n k : ℕ) : Type 0 where
 pub walk-from : {s : List ℕ} → Laid s → Walk s (cellAt s 5) (bodyFrom s)
 walk-from r = record { end = r .end; is = right r .body }
 
-
 pub lines-more : (s : List ℕ) (n k : ℕ) → 0 < n → linesAt s n k ≡ (lineAt s k ∷ linesAt s (n - 1) (behind s k))
 unfolding linesAt
 lines-more s zero k h = absurd (omega arith)

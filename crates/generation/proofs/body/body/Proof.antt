@@ -28,23 +28,23 @@ body-from-requires : tie.Need-body-from-requires Inv-loop μ-loop
 body-from-requires c κs = has-params (c .before .before .before .before .before .before .before .pre .0)
 
 loop-holds : tie.Need-loop-holds Inv-loop μ-loop
-loop-holds c = 
+loop-holds c =
     let a = c .before .before .before .before .before .before .before .before in
     none-run (a .args .tables .now) (a .args .offsets .now) (a .pre .0) (a .args .first) (a .args .out .now) (c .before .before .before .cell-at .ensures)
     (c .before .before .type-at .ensures) (c .before .cell-at2 .ensures) (c .body-from .ensures)
 
 add-place : tie.Need-add-place Inv-loop μ-loop
-add-place c = 
+add-place c =
     let l = c .before in
     omega (arith, l .loop .inv .few, l .before .before .before .before .before .before .before .before .before .pre .1)
 
 mul-place : tie.Need-mul-place Inv-loop μ-loop
-mul-place c = 
+mul-place c =
     let l = c .before in
     omega (arith, l .loop .inv .few, l .before .before .before .before .before .before .before .before .before .pre .1)
 
 put-instr-requires : tie.Need-put-instr-requires Inv-loop μ-loop
-put-instr-requires c κs = 
+put-instr-requires c κs =
     let l = c .before .before in
     let h = c .before .loop-test .taken in
     let w = l .loop .inv .walk in
@@ -70,20 +70,20 @@ returns c =
     (r .0, (r .1, omega arith))
 
 ends-requires : tie.Need-ends-requires Inv-loop μ-loop
-ends-requires c κs = 
+ends-requires c κs =
     let q = c .before .before .before .before .before in
     let l = q .before .before .before in
     omega (arith, walk-here _ _ (l .loop .inv .walk) (q .before .before .loop-test .taken) .0)
 
 add-made : tie.Need-add-made Inv-loop μ-loop
-add-made c = 
+add-made c =
     let q = c .before .before .before .before .before .before in
     let l = q .before .before .before in
     let f = run-few (l .loop .inv) (q .before .before .loop-test .taken) (sym (ap madeSays (c .before .before .n .given .1)) ∙ q .put-instr .ensures .0) in
     omega (arith, f, l .loop .inv .few)
 
 behind-requires : tie.Need-behind-requires Inv-loop μ-loop
-behind-requires c κs = 
+behind-requires c κs =
     let q = c .before .before .before .before .before .before in
     let l = q .before .before .before in
     walk-here _ _ (l .loop .inv .walk) (q .before .before .loop-test .taken) .1
@@ -98,7 +98,7 @@ loop-less : tie.Need-loop-less Inv-loop μ-loop
 loop-less c = omega (arith, c .before .before .before .before .before .before .before .before .before .loop-test .taken)
 
 loop-again : tie.Need-loop-again Inv-loop μ-loop
-loop-again c = 
+loop-again c =
     let q = c .before .before .before .before .before .before .before in
     let l = q .before .before .before in
     rw (c .behind .ensures, c .before .ends .ensures)
