@@ -1,0 +1,4 @@
+pub mod Running
+pub mod Walk
+pub mod Listing
+pub mod Lowering

@@ -1,0 +1,16 @@
+-- What the public answers say (01, "The turned-away slip"): a number of records, or a refusal with its place.
+use Prim.Native.Nat.{ℕ}
+use mathlib.Core.List.{List}
+use lib.ListN.{length}
+use Rattle.x86.specs.declared.enums.Instruction.{Instruction}
+use Rattle.codegen.specs.Generation.{Outcome, accepted, refused}
+use Rattle.generation.specs.declared.Answer.{Answer}
+
+abbrev pub answerSays : Answer → Outcome ℕ
+answerSays (Answer.Accepted n) = accepted n
+answerSays (Answer.Refused n place) = refused n place
+
+-- the number of records of a list
+abbrev pub countedOutcome : Outcome (List Instruction) → Outcome ℕ
+countedOutcome (accepted is) = accepted (length is)
+countedOutcome (refused n place) = refused n place
