@@ -1,6 +1,6 @@
 // The body: one instruction's records behind those of the other.
-use crate::dispatch::put_instr;
 use cells::cell_at;
+use dispatch::put_instr;
 use ir::read::type_at;
 use utils::Made;
 ghost use mathlib.Core.Path.{_≡_};

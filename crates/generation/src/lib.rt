@@ -1,6 +1,5 @@
 // Krc's codegen/generation.rs: the list of a function's records, or the first refusal with its place.
 mod body;
-mod dispatch;
 mod pass;
 
 use crate::pass::Ready;

@@ -10,3 +10,4 @@ pub mod Named
 pub mod Verdict
 pub mod Late
 pub mod Early
+pub mod Counts

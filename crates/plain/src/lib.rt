@@ -8,10 +8,12 @@ mod vars;
 use crate::body::count_labels;
 use crate::body::first_fault;
 use crate::head::is_plain_head;
+use generation::Answer;
+use generation::count;
 ghost use mathlib.Core.Path.{_≡_};
 ghost use mathlib.Core.Bool.{true};
 ghost use Rattle.ir.specs.Function.{functionOf};
-ghost use Rattle.plain.specs.Answers.{faultOf};
+ghost use Rattle.plain.specs.Answers.{Says, faultOf};
 ghost use Rattle.plain.specs.Parts.{areNamed, Laid, verdict};
 
 // Yes, or no with the number of some instruction at fault; 0 for variables, parameters, the return type or refusals 1 to 3.
@@ -39,4 +41,14 @@ fn fault_of(number: u64, place: u64) -> u64
     ensures { λ r. ⌜ r ≡ faultOf number place ⌝ }
 {
     if number < 4 { 0 } else { place }
+}
+
+// Whether every condition holds, or else some number at fault.
+pub fn plain(tables: &[u8], sheet: &[u8]) -> Plainness
+    ensures { λ r. ⌜ Says (now (tables .entry)) (now (sheet .entry)) r ⌝ }
+{
+    match count(tables, sheet) {
+        Answer::Accepted(_) => conditions(sheet),
+        Answer::Refused(number, place) => Plainness::No(fault_of(number, place)),
+    }
 }
