@@ -1,17 +1,25 @@
 // The fixed list of the oracle's answers (vectors/README.md has its form) is standard input. Each of its cases goes through the checks of the
-// layout. A case that they refuse gives a line: its number from 0, the refusal and the place. The last line has the count of cases and of the
-// refusals 1, 2 and 3.
+// layout, the lowering and the plain test. A case that the checks refuse gives a line: its number from 0, the refusal and the place. A case whose
+// answer, records, lent bytes or plain test are not as the list has them gives a line `difference`. The last lines have the counts.
 use cells::Cell;
 use cells::Cursor;
+use cells::cell_at;
 use cells::put_word;
+use generation::Answer;
+use generation::generate;
 use layout::Checked;
 use layout::sheet::sheet_check;
 use layout::tables::tables_check;
+use plain::Plainness;
+use plain::plain;
 ghost use mathlib.Core.Path.{_≡_};
 ghost use lib.ListN.{length};
 
 // `KRCVEC01`, as a cell.
 const MAGIC: u64 = 3544406871819637323;
+
+// Bytes in front of the record bytes that are lent, and behind them.
+const EDGE: usize = 64;
 
 // A number of the list and the place behind it; or the list is cut short, or the number has more than ten bytes.
 enum Read {
@@ -28,6 +36,12 @@ enum Place {
 // How many bytes were read into a slice, and the place behind them in the list; or the list is malformed.
 enum Slice {
     Bytes(usize, usize),
+    Bad,
+}
+
+// The place behind records or faults, and whether they are as they should be; or the list is malformed.
+enum Compared {
+    At(usize, bool),
     Bad,
 }
 
@@ -62,24 +76,6 @@ fn cell(z: u64) -> u64 {
     } else {
         18446744073709551615 - z / 2
     }
-}
-
-// The place behind n numbers.
-fn skip(list: &[u8], at: usize, n: u64) -> Place {
-    let mut k = at;
-    let mut left = n;
-    while 0 < left {
-        match number(list, k) {
-            Read::Number(_, next) => {
-                k = next;
-            }
-            Read::Bad => {
-                return Place::Bad;
-            }
-        }
-        left -= 1;
-    }
-    Place::At(k)
 }
 
 // Puts n cells at the start of `out`.
@@ -160,35 +156,6 @@ fn slice_in(list: &[u8], at: usize, out: &mut [u8]) -> Slice {
     }
 }
 
-// The place behind a counted list of numbers.
-fn skip_counted(list: &[u8], at: usize) -> Place {
-    match number(list, at) {
-        Read::Number(n, first) => skip(list, first, n),
-        Read::Bad => Place::Bad,
-    }
-}
-
-// The place behind the answer to a case: room, number, place, the records where it was accepted, the faults.
-fn skip_answer(list: &[u8], at: usize) -> Place {
-    let Place::At(second) = skip(list, at, 1) else {
-        return Place::Bad;
-    };
-    let Read::Number(refusal, third) = number(list, second) else {
-        return Place::Bad;
-    };
-    let Read::Number(count, records) = number(list, third) else {
-        return Place::Bad;
-    };
-    if 1048576 < count {
-        return Place::Bad;
-    }
-    let cells = if refusal == 0 { 8 * count } else { 0 };
-    let Place::At(faults) = skip(list, records, cells) else {
-        return Place::Bad;
-    };
-    skip_counted(list, faults)
-}
-
 fn print_line(index: u64, n: u64, place: u64) {
     io::print_decimal(1, index);
     io::write_all(1, b" ");
@@ -198,17 +165,41 @@ fn print_line(index: u64, n: u64, place: u64) {
     io::write_all(1, b"\n");
 }
 
-// Writes and counts a refusal.
-fn refused(index: u64, n: u64, place: usize, counts: &mut [u64; 4]) {
+// Counts: accepted, the refusals 1 to 9, records, plain functions, differences, and the refusals 1 to 3 of the checks alone.
+const RECORDS: usize = 10;
+
+const PLAIN: usize = 11;
+
+const DIFFERENCES: usize = 12;
+
+const CHECKS: usize = 12;
+
+fn count(counts: &mut [u64; 16], k: usize, by: u64) {
+    if k < 16 {
+        counts[k] = std::num::wrapping_add_u64(counts[k], by);
+    }
+}
+
+// Writes and counts a difference: 1 the answer, 2 the records, 3 another lent byte, 4 the plain test.
+fn difference(index: u64, what: u64, counts: &mut [u64; 16]) {
+    io::write_all(1, b"difference ");
+    io::print_decimal(1, index);
+    io::write_all(1, b" ");
+    io::print_decimal(1, what);
+    io::write_all(1, b"\n");
+    count(counts, DIFFERENCES, 1);
+}
+
+// Writes and counts a refusal by the checks.
+fn refused(index: u64, n: u64, place: usize, counts: &mut [u64; 16]) {
     print_line(index, n, place as u64);
     if n < 4 {
-        let k = n as usize;
-        counts[k] = std::num::wrapping_add_u64(counts[k], 1);
+        count(counts, CHECKS + n as usize, 1);
     }
 }
 
 // The checks of one case.
-fn check(index: u64, tables: &[u8], sheet: &[u8], counts: &mut [u64; 4]) {
+fn check(index: u64, tables: &[u8], sheet: &[u8], counts: &mut [u64; 16]) {
     match tables_check(tables) {
         Checked::Behind(_) => match sheet_check(sheet) {
             Checked::Behind(_) => {}
@@ -218,19 +209,263 @@ fn check(index: u64, tables: &[u8], sheet: &[u8], counts: &mut [u64; 4]) {
     }
 }
 
-// One case: read, checked, and its answer passed over.
+// The byte that stands at a place of the record bytes before a call.
+fn filler(k: usize) -> u8 {
+    (k % 251) as u8
+}
+
+fn fill(records: &mut [u8]) {
+    let mut k = 0;
+    while k < records.len() {
+        records[k] = filler(k);
+        k += 1;
+    }
+}
+
+// Whether the bytes from `from` to before `to` stand as they were filled in.
+fn is_filled(records: &[u8], from: usize, to: usize) -> bool {
+    let mut k = from;
+    while k < to {
+        if records.len() <= k {
+            return false;
+        }
+        if records[k] != filler(k) {
+            return false;
+        }
+        k += 1;
+    }
+    true
+}
+
+// The lowering into the record bytes but for EDGE at their start and at their end.
+fn lower(tables: &[u8], sheet: &[u8], records: &mut [u8]) -> Answer {
+    if records.len() < 2 * EDGE {
+        return Answer::Refused(0, 0);
+    }
+    let end = records.len() - EDGE;
+    generate(tables, sheet, &mut records[EDGE..end])
+}
+
+fn count_answer(a: Answer, counts: &mut [u64; 16]) {
+    match a {
+        Answer::Accepted(_) => count(counts, 0, 1),
+        Answer::Refused(n, _) => {
+            if n < 10 {
+                count(counts, n as usize, 1);
+            }
+        }
+    }
+}
+
+// Whether an answer is the refusal and place of the list, or acceptance, of number 0, and the count.
+fn is_answer(a: Answer, refusal: u64, place: u64) -> bool {
+    match a {
+        Answer::Accepted(n) => refusal == 0 && n == place,
+        Answer::Refused(n, k) => 0 < n && n == refusal && k == place,
+    }
+}
+
+// Whether the next n cells of the list are those at the start of `out`.
+fn same_cells(list: &[u8], at: usize, n: usize, out: &[u8]) -> Compared {
+    let mut k = at;
+    let mut j = 0;
+    let mut same = true;
+    while j < n {
+        let Read::Number(z, next) = number(list, k) else {
+            return Compared::Bad;
+        };
+        if j < out.len() / 8 {
+            if cell_at(out, j) != cell(z) {
+                same = false;
+            }
+        } else {
+            same = false;
+        }
+        k = next;
+        j += 1;
+    }
+    Compared::At(k, same)
+}
+
+// The n records of an accepted case, and the bytes before and behind them.
+fn records_in(
+    list: &[u8],
+    at: usize,
+    index: u64,
+    n: usize,
+    records: &[u8],
+    counts: &mut [u64; 16],
+) -> Place {
+    if records.len() < EDGE {
+        return Place::Bad;
+    }
+    if 1048576 < n {
+        return Place::Bad;
+    }
+    let Compared::At(next, same) = same_cells(list, at, 8 * n, &records[EDGE..]) else {
+        return Place::Bad;
+    };
+    if !same {
+        difference(index, 2, counts);
+    }
+    let before = is_filled(records, 0, EDGE);
+    let behind = is_filled(records, EDGE + 64 * n, records.len());
+    if !(before && behind) {
+        difference(index, 3, counts);
+    }
+    count(counts, RECORDS, n as u64);
+    Place::At(next)
+}
+
+// The lowering of a case, against the list's refusal and place, or 0 and the count of records.
+fn held(
+    list: &[u8],
+    at: usize,
+    index: u64,
+    refusal: u64,
+    place: u64,
+    tables: &[u8],
+    sheet: &[u8],
+    records: &mut [u8],
+    counts: &mut [u64; 16],
+) -> Place {
+    fill(records);
+    let answer = lower(tables, sheet, records);
+    count_answer(answer, counts);
+    if !is_answer(answer, refusal, place) {
+        difference(index, 1, counts);
+    }
+    if refusal == 0 {
+        records_in(list, at, index, place as usize, records, counts)
+    } else {
+        records_in(list, at, index, 0, records, counts)
+    }
+}
+
+// The lowering of a case, with as much room as the list says.
+fn lowering(
+    list: &[u8],
+    at: usize,
+    index: u64,
+    tables: &[u8],
+    sheet: &[u8],
+    records: &mut [u8],
+    counts: &mut [u64; 16],
+) -> Place {
+    let Read::Number(room, second) = number(list, at) else {
+        return Place::Bad;
+    };
+    let Read::Number(refusal, third) = number(list, second) else {
+        return Place::Bad;
+    };
+    let Read::Number(place, rest) = number(list, third) else {
+        return Place::Bad;
+    };
+    if 1048576 < room {
+        return Place::Bad;
+    }
+    let end = 2 * EDGE + room as usize;
+    if records.len() < end {
+        return Place::Bad;
+    }
+    let lent = &mut records[..end];
+    held(
+        list,
+        rest,
+        index,
+        refusal,
+        place,
+        tables,
+        sheet,
+        lent,
+        counts,
+    )
+}
+
+// Whether k is among the next n numbers of the list.
+fn is_among(list: &[u8], at: usize, n: u64, k: u64) -> Compared {
+    let mut here = at;
+    let mut left = n;
+    let mut found = false;
+    while 0 < left {
+        let Read::Number(fault, next) = number(list, here) else {
+            return Compared::Bad;
+        };
+        if fault == k {
+            found = true;
+        }
+        here = next;
+        left -= 1;
+    }
+    Compared::At(here, found)
+}
+
+// The plain test of a case, against the list's faults.
+fn plainness(
+    list: &[u8],
+    at: usize,
+    index: u64,
+    tables: &[u8],
+    sheet: &[u8],
+    counts: &mut [u64; 16],
+) -> Place {
+    let Read::Number(n, first) = number(list, at) else {
+        return Place::Bad;
+    };
+    match plain(tables, sheet) {
+        Plainness::Yes => {
+            count(counts, PLAIN, 1);
+            let Compared::At(next, _) = is_among(list, first, n, 0) else {
+                return Place::Bad;
+            };
+            if 0 < n {
+                difference(index, 4, counts);
+            }
+            Place::At(next)
+        }
+        Plainness::No(k) => {
+            let Compared::At(next, found) = is_among(list, first, n, k) else {
+                return Place::Bad;
+            };
+            if !found {
+                difference(index, 4, counts);
+            }
+            Place::At(next)
+        }
+    }
+}
+
+// A case's tables and sheet, through everything.
+fn answer(
+    list: &[u8],
+    at: usize,
+    index: u64,
+    tables: &[u8],
+    sheet: &[u8],
+    records: &mut [u8],
+    counts: &mut [u64; 16],
+) -> Place {
+    check(index, tables, sheet, counts);
+    match lowering(list, at, index, tables, sheet, records, counts) {
+        Place::At(faults) => plainness(list, faults, index, tables, sheet, counts),
+        Place::Bad => Place::Bad,
+    }
+}
+
+// One case.
 fn case(
     list: &[u8],
     at: usize,
     index: u64,
     tables: &mut [u8],
     sheet: &mut [u8],
-    counts: &mut [u64; 4],
+    records: &mut [u8],
+    counts: &mut [u64; 16],
 ) -> Place {
     let Slice::Bytes(t, second) = slice_in(list, at, tables) else {
         return Place::Bad;
     };
-    let Slice::Bytes(s, answer) = slice_in(list, second, sheet) else {
+    let Slice::Bytes(s, rest) = slice_in(list, second, sheet) else {
         return Place::Bad;
     };
     if tables.len() < t {
@@ -239,8 +474,15 @@ fn case(
     if sheet.len() < s {
         return Place::Bad;
     }
-    check(index, &tables[..t], &sheet[..s], counts);
-    skip_answer(list, answer)
+    answer(
+        list,
+        rest,
+        index,
+        &tables[..t],
+        &sheet[..s],
+        records,
+        counts,
+    )
 }
 
 // The cases from `at` on, of which there are n, with nothing behind them.
@@ -250,12 +492,13 @@ fn cases(
     n: u64,
     tables: &mut [u8],
     sheet: &mut [u8],
-    counts: &mut [u64; 4],
+    records: &mut [u8],
+    counts: &mut [u64; 16],
 ) -> bool {
     let mut k = at;
     let mut index = 0;
     while index < n {
-        match case(list, k, index, tables, sheet, counts) {
+        match case(list, k, index, tables, sheet, records, counts) {
             Place::At(next) => {
                 k = next;
             }
@@ -280,7 +523,7 @@ fn header(list: &[u8]) -> Read {
     }
 }
 
-// Room for the list and for a sheet. The `ensures` gives the length, which lending an array as a slice needs.
+// Room for the list, for a sheet and for records. The `ensures` gives the length, which lending an array as a slice needs.
 fn list_room() -> [u8; 1310720]
     ensures { λ r. ⌜ 1310720 ≡ length r ⌝ }
 {
@@ -293,21 +536,55 @@ fn sheet_room() -> [u8; 458752]
     [0; 458752]
 }
 
+fn records_room() -> [u8; 66240]
+    ensures { λ r. ⌜ 66240 ≡ length r ⌝ }
+{
+    [0; 66240]
+}
+
 fn replay(list: &[u8]) {
     let mut tables = [0u8; 4096];
     let mut sheet = sheet_room();
-    let mut counts = [0u64; 4];
+    let mut records = records_room();
+    let mut counts = [0u64; 16];
     let Read::Number(n, at) = header(list) else {
         malformed();
         return;
     };
-    if cases(list, at, n, &mut tables, &mut sheet, &mut counts) {
-        io::print_decimal(1, n);
-        io::write_all(1, b" ");
-        print_line(counts[1], counts[2], counts[3]);
+    if cases(
+        list,
+        at,
+        n,
+        &mut tables,
+        &mut sheet,
+        &mut records,
+        &mut counts,
+    ) {
+        print_counts(n, &counts);
     } else {
         malformed();
     }
+}
+
+fn print_counts(n: u64, counts: &[u64; 16]) {
+    io::print_decimal(1, n);
+    io::write_all(1, b" ");
+    print_line(counts[13], counts[14], counts[15]);
+    io::write_all(1, b"accepted ");
+    io::print_decimal(1, counts[0]);
+    io::write_all(1, b", records ");
+    io::print_decimal(1, counts[RECORDS]);
+    io::write_all(1, b"\nrefused ");
+    print_line(counts[1], counts[2], counts[3]);
+    io::write_all(1, b"refused ");
+    print_line(counts[4], counts[5], counts[6]);
+    io::write_all(1, b"refused ");
+    print_line(counts[7], counts[8], counts[9]);
+    io::write_all(1, b"plain ");
+    io::print_decimal(1, counts[PLAIN]);
+    io::write_all(1, b", differences ");
+    io::print_decimal(1, counts[DIFFERENCES]);
+    io::write_all(1, b"\n");
 }
 
 fn malformed() {

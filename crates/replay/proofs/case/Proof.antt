@@ -55,29 +55,29 @@ same-length-7 c = search needs
 returns-4 : tie.Need-returns-4
 returns-4 c = search needs
 
-slice-reshare-prefix-check : tie.Need-slice-reshare-prefix-check
-slice-reshare-prefix-check c = search needs
+slice-reshare-prefix-answer : tie.Need-slice-reshare-prefix-answer
+slice-reshare-prefix-answer c = search needs
 
-slice-aggregate-check : tie.Need-slice-aggregate-check
-slice-aggregate-check c = sym (length-take-le _ _ (c .before .before .if1 .left))
+slice-aggregate-answer : tie.Need-slice-aggregate-answer
+slice-aggregate-answer c = sym (length-take-le _ _ (c .before .before .if1 .left))
 
-slice-reshare-prefix-check-2 : tie.Need-slice-reshare-prefix-check-2
-slice-reshare-prefix-check-2 c = search needs
+slice-reshare-prefix-answer-2 : tie.Need-slice-reshare-prefix-answer-2
+slice-reshare-prefix-answer-2 c = search needs
 
-slice-aggregate-check-2 : tie.Need-slice-aggregate-check-2
-slice-aggregate-check-2 c = sym (length-take-le _ _ (c .before .before .if2 .left))
+slice-aggregate-answer-2 : tie.Need-slice-aggregate-answer-2
+slice-aggregate-answer-2 c = sym (length-take-le _ _ (c .before .before .if2 .left))
 
-check-requires : tie.Need-check-requires
-check-requires c κs = search needs
-
-skip-answer-requires : tie.Need-skip-answer-requires
-skip-answer-requires c κs = search needs
+answer-requires : tie.Need-answer-requires
+answer-requires c κs = search needs
 
 same-length-8 : tie.Need-same-length-8
 same-length-8 c = search needs
 
 same-length-9 : tie.Need-same-length-9
 same-length-9 c = search needs
+
+same-length-10 : tie.Need-same-length-10
+same-length-10 c = search needs
 
 returns-5 : tie.Need-returns-5
 returns-5 c = search needs
@@ -103,12 +103,12 @@ case-spec =
     same-length-6
     same-length-7
     returns-4
-    slice-reshare-prefix-check
-    slice-aggregate-check
-    slice-reshare-prefix-check-2
-    slice-aggregate-check-2
-    check-requires
-    skip-answer-requires
+    slice-reshare-prefix-answer
+    slice-aggregate-answer
+    slice-reshare-prefix-answer-2
+    slice-aggregate-answer-2
+    answer-requires
     same-length-8
     same-length-9
+    same-length-10
     returns-5)

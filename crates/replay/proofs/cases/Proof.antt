@@ -6,10 +6,11 @@ use Rattle.replay.proofs.cases.Statement.{statement}
 use Rattle.replay.proofs.cases.Tie as tie
 
 abbrev Inv-loop : tie.InvT-loop
-Inv-loop list at n tables₀ sheet₀ counts₀ k₀ index₀ tables sheet counts k index = (length tables ≡ length tables₀) × (length sheet ≡ length sheet₀)
+Inv-loop list at n tables₀ sheet₀ records₀ counts₀ k₀ index₀ tables sheet records counts k index = (length tables ≡ length tables₀) ×
+    (length sheet ≡ length sheet₀) × (length records ≡ length records₀)
 
 abbrev μ-loop : tie.MeasureT-loop
-μ-loop list at n tables₀ sheet₀ counts₀ k₀ index₀ tables sheet counts k index = n - index
+μ-loop list at n tables₀ sheet₀ records₀ counts₀ k₀ index₀ tables sheet records counts k index = n - index
 
 loop-holds : tie.Need-loop-holds Inv-loop μ-loop
 loop-holds c = search needs
@@ -29,6 +30,9 @@ same-length c = search needs
 same-length-2 : tie.Need-same-length-2 Inv-loop μ-loop
 same-length-2 c = search needs
 
+same-length-3 : tie.Need-same-length-3 Inv-loop μ-loop
+same-length-3 c = search needs
+
 returns : tie.Need-returns Inv-loop μ-loop
 returns c = search needs
 
@@ -41,11 +45,14 @@ loop-less c = search needs
 loop-again : tie.Need-loop-again Inv-loop μ-loop
 loop-again c = search needs
 
-same-length-3 : tie.Need-same-length-3 Inv-loop μ-loop
-same-length-3 c = search needs
-
 same-length-4 : tie.Need-same-length-4 Inv-loop μ-loop
 same-length-4 c = search needs
+
+same-length-5 : tie.Need-same-length-5 Inv-loop μ-loop
+same-length-5 c = search needs
+
+same-length-6 : tie.Need-same-length-6 Inv-loop μ-loop
+same-length-6 c = search needs
 
 returns-2 : tie.Need-returns-2 Inv-loop μ-loop
 returns-2 c = search needs
@@ -62,10 +69,12 @@ cases-spec =
     enum-told
     same-length
     same-length-2
+    same-length-3
     returns
     add-index
     loop-less
     loop-again
-    same-length-3
     same-length-4
+    same-length-5
+    same-length-6
     returns-2)

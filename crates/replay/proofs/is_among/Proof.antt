@@ -1,12 +1,12 @@
 use borrow.Author.Needs.{needs}
-use Rattle.replay.proofs.skip.Statement.{statement}
-use Rattle.replay.proofs.skip.Tie as tie
+use Rattle.replay.proofs.is_among.Statement.{statement}
+use Rattle.replay.proofs.is_among.Tie as tie
 
 abbrev Inv-loop : tie.InvT-loop
-Inv-loop list at n k₀ left₀ k left = Unit {0}
+Inv-loop list at n k here₀ left₀ found₀ here left found = Unit {0}
 
 abbrev μ-loop : tie.MeasureT-loop
-μ-loop list at n k₀ left₀ k left = left
+μ-loop list at n k here₀ left₀ found₀ here left found = left
 
 loop-holds : tie.Need-loop-holds Inv-loop μ-loop
 loop-holds c = search needs
@@ -14,8 +14,8 @@ loop-holds c = search needs
 number-requires : tie.Need-number-requires Inv-loop μ-loop
 number-requires c κs = search needs
 
-enum-known-next : tie.Need-enum-known-next Inv-loop μ-loop
-enum-known-next c = search needs
+enum-known-fault : tie.Need-enum-known-fault Inv-loop μ-loop
+enum-known-fault c = search needs
 
 enum-told : tie.Need-enum-told Inv-loop μ-loop
 enum-told c = search needs
@@ -35,15 +35,15 @@ loop-again c = search needs
 returns-2 : tie.Need-returns-2 Inv-loop μ-loop
 returns-2 c = search needs
 
-pub skip-spec : {M : Type 1} → statement M
-skip-spec =
+pub is-among-spec : {M : Type 1} → statement M
+is-among-spec =
     tie.close
     (tie.spec
     Inv-loop
     μ-loop
     loop-holds
     number-requires
-    enum-known-next
+    enum-known-fault
     enum-told
     returns
     sub-left

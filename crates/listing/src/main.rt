@@ -1,0 +1,17 @@
+// The listing program: cells from standard input, text to standard output.
+ghost use mathlib.Core.Path.{_≡_};
+ghost use lib.ListN.{length};
+
+// One byte more than an input may have. The `ensures` gives the length, which lending the array as a slice needs.
+fn room() -> [u8; 65537]
+    ensures { λ r. ⌜ 65537 ≡ length r ⌝ }
+{
+    [0; 65537]
+}
+
+fn main() {
+    let mut input = room();
+    let mut records = io::large_buffer();
+    let n = io::read_full(0, &mut input);
+    lister::list(1, &input[..n], &mut records);
+}
