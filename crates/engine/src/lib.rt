@@ -1,0 +1,57 @@
+// What the C engine links: the lowering and the plain test, on byte slices, with numbers for answers.
+use generation::Answer;
+use generation::generate;
+use plain::Plainness;
+use plain::plain;
+ghost use mathlib.Core.Path.{_≡_};
+ghost use mathlib.Core.List.{List};
+ghost use lib.ListN.{length};
+ghost use Rattle.x86.specs.declared.enums.Instruction.{Instruction};
+ghost use Rattle.codegen.specs.Generation.{accepted, lowered, recordsAfter};
+ghost use Rattle.machine.specs.Plain.{Plain};
+ghost use Rattle.machine.specs.Calls.{Demand2};
+ghost use Rattle.machine.specs.Simulation.{Demand3};
+ghost use Rattle.engine.specs.Numbers.{numberOf, valueOf, PlainSays};
+
+// Lowers the sheet. Gives 0, with the number of records in `place`, or the number of a refusal, with its place.
+#[no_mangle]
+pub extern "C" fn gilthoren_lower(
+    tables: &[u8],
+    sheet: &[u8],
+    records: &mut [u8],
+    place: &mut u64,
+) -> u64
+    ensures number { λ r. ⌜ r ≡ numberOf (lowered (now (tables .entry)) (now (sheet .entry)) (length (now (records .entry)))) ⌝ }
+    ensures place { λ r. ⌜ now (place .exit) ≡ valueOf (lowered (now (tables .entry)) (now (sheet .entry)) (length (now (records .entry)))) ⌝ }
+    ensures bytes { λ r. ⌜ now (records .exit) ≡ recordsAfter (lowered (now (tables .entry)) (now (sheet .entry)) (length (now (records .entry)))) (now (records .entry)) ⌝ }
+    ensures demand2 { λ r. ⌜ ((is : List Instruction) → lowered (now (tables .entry)) (now (sheet .entry)) (length (now (records .entry))) ≡ accepted is → Demand2 (now (tables .entry)) (now (sheet .entry)) (now (records .exit)) (length is)) ⌝ }
+    ensures demand3 { λ r. ⌜ ((is : List Instruction) → lowered (now (tables .entry)) (now (sheet .entry)) (length (now (records .entry))) ≡ accepted is → Plain (now (tables .entry)) (now (sheet .entry)) → Demand3 (now (tables .entry)) (now (sheet .entry)) (now (records .exit)) (length is)) ⌝ }
+{
+    match generate(tables, sheet, records) {
+        Answer::Accepted(count) => {
+            *place = count;
+            0
+        }
+        Answer::Refused(number, cell) => {
+            *place = cell;
+            number
+        }
+    }
+}
+
+// The plain test. Gives 1 for yes, with 0 in `place`; or 0 for no, with a number that is at fault.
+#[no_mangle]
+pub extern "C" fn gilthoren_plain(tables: &[u8], sheet: &[u8], place: &mut u64) -> u64
+    ensures { λ r. ⌜ PlainSays (now (tables .entry)) (now (sheet .entry)) r (now (place .exit)) ⌝ }
+{
+    match plain(tables, sheet) {
+        Plainness::Yes => {
+            *place = 0;
+            1
+        }
+        Plainness::No(number) => {
+            *place = number;
+            0
+        }
+    }
+}
