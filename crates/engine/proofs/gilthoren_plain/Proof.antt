@@ -16,12 +16,12 @@ enum-known-number : tie.Need-enum-known-number
 enum-known-number c = search needs
 
 returns : tie.Need-returns
-returns c = 
+returns c =
     let a = c .before .before .before .before .before .args in
     plain-yes (subst (λ (x : Plainness). Says (a .tables .now) (a .sheet .now) x) (c .enum-told .given .1) (c .before .before .plain .ensures))
 
 returns-2 : tie.Need-returns-2
-returns-2 c = 
+returns-2 c =
     let a = c .before .before .before .before .before .before .args in
     plain-no (subst (λ (x : Plainness). Says (a .tables .now) (a .sheet .now) x) (c .before .number .given .1) (c .before .before .before .plain .ensures))
 
