@@ -27,8 +27,8 @@ accepted-count {o} {n} {is} e f = let g : accepted n ≡ accepted (length is) = 
 pub never-accepted : {o : Outcome (List Instruction)} {n p : ℕ} {is : List Instruction} → refused n p ≡ countedOutcome o → o ≡ accepted is → ⊥
 never-accepted {o} {n} {p} {is} e f = let g : refused n p ≡ accepted (length is) = e ∙ ap countedOutcome f in let z : _≡_ {A = ℕ} 0 1 = cc in omega arith
 
-pub plain-yes : {t s : List ℕ} {n : ℕ} → Plain t s → PlainSays t s 1 n
-plain-yes h = record { flag = inl refl; yes = λ e. h; no = λ e. absurd (omega arith) }
+pub plain-yes : {t s : List ℕ} → Plain t s → PlainSays t s 1 0
+plain-yes h = record { flag = inl refl; yes = λ e. h; none = λ e. refl; no = λ e. absurd (omega arith) }
 
 pub plain-no : {t s : List ℕ} {n : ℕ} → isFault t s n ≡ true → PlainSays t s 0 n
-plain-no h = record { flag = inr refl; yes = λ e. absurd (omega arith); no = λ e. h }
+plain-no h = record { flag = inr refl; yes = λ e. absurd (omega arith); none = λ e. absurd (omega arith); no = λ e. h }

@@ -19,8 +19,9 @@ abbrev pub valueOf : Outcome (List Instruction) → ℕ
 valueOf (accepted is) = length is
 valueOf (refused n place) = place
 
--- 1: the function is plain; 0: it is not, and the second number is at fault (which of them is open)
+-- 1, and the second number is 0: the function is plain; 0: it is not, and the second number is at fault (which of them is open)
 pub record PlainSays (tables sheet : List ℕ) (answer number : ℕ) : Type 0 where
   pub flag : (answer ≡ 1) ⊎ (answer ≡ 0)
   pub yes : answer ≡ 1 → Plain tables sheet
+  pub none : answer ≡ 1 → number ≡ 0
   pub no : answer ≡ 0 → isFault tables sheet number ≡ true
