@@ -4,7 +4,7 @@ use mathlib.Core.Bool.{cond}
 use lib.Dec.{eqb}
 use Rattle.x86.specs.declared.enums.ConditionCode.{ConditionCode}
 
--- by its operation's number: Eq 5, NotEq 6, Lt 7, Le 8, Gt 9, Ge 10 (01, "Instruction")
+-- by its operation's number: Eq 5, NotEq 6, Lt 7, Le 8, Gt 9, Ge 10 (01, "The form each place needs")
 unfoldable pub comparisonCode : ℕ → ConditionCode
 comparisonCode op =
     cond (eqb op 5) ConditionCode.E (cond (eqb op 6) ConditionCode.NE (cond (eqb op 7) ConditionCode.L (cond (eqb op 8) ConditionCode.LE
