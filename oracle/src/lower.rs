@@ -51,6 +51,11 @@ pub fn lower(tables: &Tables, sheet: &Sheet) -> Result<Vec<Record>, Refusal> {
     })
 }
 
+/// Krc's list of a function that is accepted.
+pub fn list(tables: &Tables, sheet: &Sheet) -> Vec<Record> {
+    lower(tables, sheet).expect("a plain function lowers")
+}
+
 /// The length of the shortest prefix that is refused, when the whole is.
 fn first_refused(whole: usize, refused: impl Fn(&usize) -> bool) -> u64 {
     let (mut low, mut high) = (0, whole);

@@ -1,8 +1,14 @@
 //! Reference answers for the lowering, from Krc's own code.
 
+#[cfg(feature = "engine")]
+mod bench;
 mod cases;
 mod cells;
 mod compact;
+#[cfg(feature = "engine")]
+mod compare;
+#[cfg(feature = "engine")]
+mod engine;
 mod list;
 mod listing;
 mod lower;
@@ -28,7 +34,11 @@ const USAGE: &str = "usage: oracle answer < CELLS
        oracle list OUT
        oracle show FILE [N]
        oracle processor SEED COUNT
-       oracle runs SEED COUNT";
+       oracle runs SEED COUNT
+with the engine linked in:
+       oracle compare SEED COUNT
+       oracle engine-processor SEED COUNT
+       oracle bench";
 
 fn main() -> ExitCode {
     let args: Vec<String> = env::args().skip(1).collect();
@@ -56,12 +66,32 @@ fn command(words: &[&str]) -> Result<(), String> {
             print(case.to_string().as_bytes())
         }
         ["processor", seed, count] => {
-            let summary = processor::test(number(seed)?, number(count)? as usize)?;
+            let summary = processor::test(number(seed)?, number(count)? as usize, lower::list)?;
             print(summary.as_bytes())
         }
-        ["runs", seed, count] => print(runs::lines(number(seed)?, number(count)? as usize).as_bytes()),
-        _ => Err(USAGE.to_string()),
+        ["runs", seed, count] => {
+            print(runs::lines(number(seed)?, number(count)? as usize).as_bytes())
+        }
+        _ => engine_command(words),
     }
+}
+
+#[cfg(feature = "engine")]
+fn engine_command(words: &[&str]) -> Result<(), String> {
+    let summary = match words {
+        ["compare", seed, count] => compare::test(number(seed)?, number(count)? as usize)?,
+        ["engine-processor", seed, count] => {
+            processor::test(number(seed)?, number(count)? as usize, engine::list)?
+        }
+        ["bench"] => bench::table(),
+        _ => return Err(USAGE.to_string()),
+    };
+    print(summary.as_bytes())
+}
+
+#[cfg(not(feature = "engine"))]
+fn engine_command(_: &[&str]) -> Result<(), String> {
+    Err(USAGE.to_string())
 }
 
 fn number(word: &str) -> Result<u64, String> {

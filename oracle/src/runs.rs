@@ -2,6 +2,7 @@
 
 use std::fmt::Write;
 
+use crate::lower::list;
 use crate::processor::trial::{Entry, Trial, draw, frame, slots};
 use crate::rng::Rng;
 use crate::steps::{End, Run};
@@ -18,7 +19,7 @@ pub fn lines(seed: u64, count: usize) -> String {
     let mut text = String::new();
     let mut done = 0;
     while done < count {
-        let trial = draw(&mut rng);
+        let trial = draw(&mut rng, list);
         if trial.sheet.cells().len() > MAX_CELLS || frame(&trial.sheet) > MAX_FRAME {
             continue;
         }
@@ -54,7 +55,10 @@ fn line(trial: &Trial, entry: &Entry, text: &mut String) {
     };
     debug_assert_eq!(slots(&trial.sheet, below).len(), entry.run.variables.len());
     counted(text, trial.sheet.cells().iter());
-    counted(text, entry.registers[..16].iter().enumerate().map(|(k, r)| if k == 4 { 0 } else { *r }));
+    counted(
+        text,
+        entry.registers[..16].iter().enumerate().map(|(k, r)| if k == 4 { 0 } else { *r }),
+    );
     counted(text, bytes.iter());
     write!(text, "{end} {} {width} {value} ", entry.run.steps).expect("a string takes text");
     counted(text, entry.run.variables.concat().iter());

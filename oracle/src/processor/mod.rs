@@ -1,5 +1,5 @@
-//! The processor test: Krc's lists of plain functions, run natively and held against the
-//! functions' own steps.
+//! The processor test: lists of plain functions, run natively and held against the functions'
+//! own steps.
 
 mod asm;
 mod batch;
@@ -10,7 +10,7 @@ use crate::sheet::{Instr, binary};
 use crate::steps::End;
 use batch::{BuildFolder, Outcome};
 use krc::record::Record;
-use trial::{COUNTER, Entry, POSITION, RBP, RSP, SAVED, Trial, frame, slots};
+use trial::{COUNTER, Entry, Lowering, POSITION, RBP, RSP, SAVED, Trial, frame, slots};
 
 /// Functions assembled together.
 const BATCH: usize = 500;
@@ -30,14 +30,14 @@ struct Totals {
     most_steps: u64,
 }
 
-/// Runs `count` functions; an error tells the first difference.
-pub fn test(seed: u64, count: usize) -> Result<String, String> {
+/// Runs the lists of `count` functions; an error tells the first difference.
+pub fn test(seed: u64, count: usize, lowering: Lowering) -> Result<String, String> {
     let mut rng = Rng::new(seed);
     let mut totals = Totals::default();
     let folder = BuildFolder::open()?;
     while totals.functions < count {
         let size = BATCH.min(count - totals.functions);
-        let trials: Vec<Trial> = (0..size).map(|_| trial::draw(&mut rng)).collect();
+        let trials: Vec<Trial> = (0..size).map(|_| trial::draw(&mut rng, lowering)).collect();
         test_batch(&folder, &trials, &mut totals)
             .map_err(|error| format!("{error}\nleft in {}", folder.place().display()))?;
     }

@@ -1,10 +1,9 @@
 //! Plain functions with entry states, and what their steps lead to.
 
 use crate::cases::{any, plain};
-use crate::lower::lower;
 use crate::plain::faults;
 use crate::rng::Rng;
-use crate::sheet::Sheet;
+use crate::sheet::{Sheet, Tables};
 use crate::steps::{End, Run, run};
 use krc::record::Record;
 
@@ -44,11 +43,14 @@ pub struct Entry {
     pub run: Run,
 }
 
+/// What makes the lists that are run.
+pub type Lowering = fn(&Tables, &Sheet) -> Vec<Record>;
+
 /// A random plain function whose runs all end.
-pub fn draw(rng: &mut Rng) -> Trial {
+pub fn draw(rng: &mut Rng, lowering: Lowering) -> Trial {
     loop {
         let draft = plain::draft(rng);
-        let list = lower(&draft.tables, &draft.sheet).expect("a plain function lowers");
+        let list = lowering(&draft.tables, &draft.sheet);
         assert!(faults(&draft.sheet, None).is_empty(), "not plain:\n{}", draft.sheet);
         let entries: Vec<Entry> = (0..ENTRIES).map(|_| entry(rng, &draft.sheet)).collect();
         if entries.iter().all(|entry| entry.run.end != End::Unended) {

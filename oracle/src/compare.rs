@@ -1,0 +1,163 @@
+//! The engine's answers beside Krc's, on guarded slices.
+
+use std::fmt::Write;
+
+use crate::cases;
+use crate::cells::to_bytes;
+use crate::compact::Case;
+use crate::engine::{Said, lower_into, plain};
+use crate::list;
+use crate::rng::Rng;
+
+/// Bytes watched before and behind each lent slice.
+const GUARD: usize = 64;
+
+#[derive(Default)]
+struct Totals {
+    cases: usize,
+    /// By answer, 0 to 9.
+    answers: [u64; 10],
+    records: u64,
+    plain: u64,
+}
+
+/// The fixed list and `count` random cases; an error tells the first difference.
+pub fn test(seed: u64, count: usize) -> Result<String, String> {
+    let mut rng = Rng::new(seed);
+    let mut old = OldBytes::new(&mut rng);
+    let mut totals = Totals::default();
+    for case in list::cases().into_iter().chain(cases::random(seed, count)) {
+        compare(&case, &mut rng, &mut old).map_err(|difference| format!("{difference}\n{case}"))?;
+        totals.add(&case);
+    }
+    Ok(totals.summary())
+}
+
+impl Totals {
+    fn add(&mut self, case: &Case) {
+        self.cases += 1;
+        self.answers[case.result.as_ref().map_or_else(|refusal| refusal.number, |_| 0) as usize] +=
+            1;
+        self.records += case.result.as_ref().map_or(0, |list| list.len() as u64);
+        self.plain += u64::from(case.faults.is_empty());
+    }
+
+    fn summary(&self) -> String {
+        let mut text = format!(
+            "{} cases, no difference: {} accepted with {} records",
+            self.cases, self.answers[0], self.records
+        );
+        for (number, count) in self.answers.iter().enumerate().skip(1) {
+            write!(text, ", {count} refused {number}").expect("text grows");
+        }
+        writeln!(text, "; {} plain", self.plain).expect("text grows");
+        text
+    }
+}
+
+/// Random bytes that slices are lent in.
+struct OldBytes(Vec<u8>);
+
+impl OldBytes {
+    const LENGTH: usize = 1 << 16;
+
+    fn new(rng: &mut Rng) -> Self {
+        let mut bytes = vec![0; Self::LENGTH];
+        rng.fill(&mut bytes);
+        Self(bytes)
+    }
+
+    /// `length` bytes from a random place on, over and over.
+    fn take(&mut self, rng: &mut Rng, length: usize) -> Vec<u8> {
+        let mut out = Vec::with_capacity(length);
+        let mut from = rng.below(Self::LENGTH);
+        while out.len() < length {
+            let part = &self.0[from..];
+            out.extend_from_slice(&part[..part.len().min(length - out.len())]);
+            from = 0;
+        }
+        out
+    }
+}
+
+/// A slice between guards, at any alignment.
+struct Lent {
+    bytes: Vec<u8>,
+    start: usize,
+    end: usize,
+}
+
+impl Lent {
+    fn new(rng: &mut Rng, old: &mut OldBytes, length: usize) -> Self {
+        let start = GUARD + rng.below(8);
+        Self { bytes: old.take(rng, start + length + GUARD), start, end: start + length }
+    }
+
+    fn of(rng: &mut Rng, old: &mut OldBytes, content: &[u8]) -> Self {
+        let mut lent = Self::new(rng, old, content.len());
+        lent.slice_mut().copy_from_slice(content);
+        lent
+    }
+
+    fn slice(&self) -> &[u8] {
+        &self.bytes[self.start..self.end]
+    }
+
+    fn slice_mut(&mut self) -> &mut [u8] {
+        &mut self.bytes[self.start..self.end]
+    }
+}
+
+fn compare(case: &Case, rng: &mut Rng, old: &mut OldBytes) -> Result<(), String> {
+    let tables = Lent::of(rng, old, &case.tables);
+    let sheet = Lent::of(rng, old, &case.sheet);
+    let mut records = Lent::new(rng, old, case.out_len as usize);
+    let before = [tables.bytes.clone(), sheet.bytes.clone()];
+    let after = records_after(case, &records);
+
+    let said = lower_into(tables.slice(), sheet.slice(), records.slice_mut());
+    same("answer", wanted(case), said)?;
+    if records.bytes != after {
+        return Err("record bytes, or bytes around them, are not as wanted".to_string());
+    }
+    compare_plain(case, plain(tables.slice(), sheet.slice()))?;
+    if before != [tables.bytes, sheet.bytes] {
+        return Err("tables or sheet, or bytes around them, were written".to_string());
+    }
+    Ok(())
+}
+
+fn wanted(case: &Case) -> Said {
+    match &case.result {
+        Ok(list) => Said { number: 0, place: list.len() as u64 },
+        Err(refusal) => Said { number: refusal.number, place: refusal.place },
+    }
+}
+
+/// The list at the start of the lent bytes, all else as before.
+fn records_after(case: &Case, records: &Lent) -> Vec<u8> {
+    let mut after = records.bytes.clone();
+    if let Ok(list) = &case.result {
+        let bytes = to_bytes(list.as_flattened());
+        after[records.start..records.start + bytes.len()].copy_from_slice(&bytes);
+    }
+    after
+}
+
+/// Yes with place 0, or no with one of the numbers at fault.
+fn compare_plain(case: &Case, said: Said) -> Result<(), String> {
+    if case.faults.is_empty() {
+        return same("plain test", Said { number: 1, place: 0 }, said);
+    }
+    if said.number == 0 && case.faults.contains(&said.place) {
+        return Ok(());
+    }
+    Err(format!("plain test: wanted no at one of {:?}, found {said:?}", case.faults))
+}
+
+fn same(what: &str, wanted: Said, found: Said) -> Result<(), String> {
+    if wanted == found {
+        return Ok(());
+    }
+    Err(format!("{what}: wanted {wanted:?}, found {found:?}"))
+}
