@@ -71,11 +71,11 @@ fn measure(sheet: &Sheet) -> (Times, usize) {
     let mut rounds: [Vec<f64>; 5] = Default::default();
     KEEP.store(false, Ordering::Relaxed);
     for _ in 0..ROUNDS {
-        rounds[0].push(time(calls, || drop(black_box(lower_into(&tables, &cells, &mut out)))));
-        rounds[1].push(time(calls, || drop(black_box(lower_into(&tables, &cells, &mut [])))));
+        rounds[0].push(time(calls, || _ = black_box(lower_into(&tables, &cells, &mut out))));
+        rounds[1].push(time(calls, || _ = black_box(lower_into(&tables, &cells, &mut []))));
         rounds[2].push(time(calls, || drop(black_box(generate(&krc_program)))));
         rounds[3].push(time(calls, || black_box(&mut out).copy_from_slice(black_box(&from))));
-        rounds[4].push(time(calls, || drop(black_box(plain(&tables, &cells)))));
+        rounds[4].push(time(calls, || _ = black_box(plain(&tables, &cells))));
     }
     KEEP.store(true, Ordering::Relaxed);
     let [ours, refused, krc, copy, plain] = rounds.map(median);

@@ -1,0 +1,137 @@
+/* A fuzzer's driver of the exported functions. An input is a case in the compact form of vectors/README.md, as far as the number of
+ * record bytes: tables, sheet, length. The slices are lent between canaries, and what must hold of every call is checked. */
+#include <stdint.h>
+#include <stdio.h>
+#include <stdlib.h>
+#include <string.h>
+
+#include "gilthoren.h"
+
+enum { GUARD = 64, MOST_BYTES = 1 << 16 };
+
+struct input {
+    const uint8_t *at, *end;
+};
+
+/* Bytes between canaries. */
+struct lent {
+    uint8_t *all, *bytes;
+    size_t length;
+};
+
+static void must(int holds, const char *what) {
+    if (!holds) {
+        fprintf(stderr, "broken: %s\n", what);
+        abort();
+    }
+}
+
+/* Unsigned LEB128; a number that is cut off ends with the input. */
+static uint64_t number(struct input *in) {
+    uint64_t n = 0;
+    for (unsigned shift = 0; shift < 64 && in->at < in->end; shift += 7) {
+        uint8_t byte = *in->at++;
+        n |= (uint64_t)(byte & 0x7f) << shift;
+        if (byte < 0x80) break;
+    }
+    return n;
+}
+
+static uint8_t canary(size_t i) {
+    return (uint8_t)(0xa5 ^ i * 29);
+}
+
+static struct lent lend(size_t length) {
+    struct lent l = {malloc(length + 2 * GUARD), NULL, length};
+    must(l.all != NULL, "memory");
+    l.bytes = l.all + GUARD;
+    for (size_t i = 0; i < length + 2 * GUARD; i++) l.all[i] = canary(i);
+    return l;
+}
+
+static void unharmed_around(const struct lent *l) {
+    for (size_t i = 0; i < GUARD; i++) {
+        size_t behind = GUARD + l->length + i;
+        must(l->all[i] == canary(i) && l->all[behind] == canary(behind), "a canary");
+    }
+}
+
+/* Nothing was written from `from` on. */
+static void unharmed_from(const struct lent *l, size_t from) {
+    for (size_t i = GUARD + from; i < GUARD + l->length; i++) must(l->all[i] == canary(i), "old content");
+}
+
+/* Counted cells, zigzag, then the bytes of a torn cell. */
+static struct lent slice(struct input *in) {
+    uint64_t cells = number(in);
+    size_t left = (size_t)(in->end - in->at), torn;
+    struct lent l;
+    if (cells > left) cells = left;
+    l = lend(8 * cells + 7);
+    for (uint64_t c = 0; c < cells; c++) {
+        uint64_t z = number(in), v = (z >> 1) ^ (0 - (z & 1));
+        for (unsigned b = 0; b < 8; b++) l.bytes[8 * c + b] = (uint8_t)(v >> (8 * b));
+    }
+    torn = in->at < in->end ? *in->at++ % 8 : 0;
+    for (size_t b = 0; b < torn; b++) l.bytes[8 * cells + b] = in->at < in->end ? *in->at++ : 0;
+    l.length = 8 * cells + torn;
+    for (size_t i = GUARD + l.length; i < l.length + 2 * GUARD; i++) l.all[i] = canary(i);
+    return l;
+}
+
+static struct lent copy_of(const struct lent *l) {
+    struct lent c = lend(l->length);
+    memcpy(c.bytes, l->bytes, l->length);
+    return c;
+}
+
+static uint64_t lower(const struct lent *t, const struct lent *s, const struct lent *r, uint64_t *place) {
+    return gilthoren_lower(t->bytes, t->length, s->bytes, s->length, r->bytes, r->length, place);
+}
+
+/* Numbers and places that 01 allows, and the record bytes that the answer allows to be written. */
+static void check_answer(uint64_t answer, uint64_t place, const struct lent *t, const struct lent *s, const struct lent *r) {
+    must(answer <= 9, "the number");
+    must(answer != 1 || place <= t->length / 8, "the tables' cell");
+    must((answer != 2 && answer != 3) || place <= s->length / 8, "the sheet's cell");
+    must(answer < 4 || answer > 8 || place <= 4096, "the instruction");
+    must(answer != 9 || place * GILTHOREN_RECORD_BYTES > r->length, "the room");
+    must(answer != 0 || place * GILTHOREN_RECORD_BYTES <= r->length, "the count");
+    unharmed_from(r, answer == 0 ? place * GILTHOREN_RECORD_BYTES : 0);
+    unharmed_around(r);
+}
+
+/* With no room at all the answer is the same refusal, or 9 with the number of records. */
+static void check_no_room(uint64_t answer, uint64_t place, const struct lent *t, const struct lent *s) {
+    struct lent none = lend(0);
+    uint64_t needed = 0, again = lower(t, s, &none, &needed);
+    must(needed == place, "the place with no room");
+    must(again == (answer == 0 ? 9 : answer) || (again == 0 && place == 0), "the answer with no room");
+    unharmed_around(&none);
+    free(none.all);
+}
+
+static void check_plain(uint64_t answer, const struct lent *t, const struct lent *s) {
+    uint64_t place = UINT64_MAX;
+    uint64_t yes = gilthoren_plain(t->bytes, t->length, s->bytes, s->length, &place);
+    must(yes <= 1 && place <= 4096, "the plain test's answer");
+    must(yes == 0 || (place == 0 && (answer == 0 || answer == 9)), "a plain function is lowered");
+}
+
+int LLVMFuzzerTestOneInput(const uint8_t *data, size_t size) {
+    struct input in = {data, data + size};
+    struct lent tables = slice(&in), sheet = slice(&in);
+    struct lent old_tables = copy_of(&tables), old_sheet = copy_of(&sheet);
+    struct lent records = lend((size_t)(number(&in) % MOST_BYTES));
+    uint64_t place = UINT64_MAX, answer = lower(&tables, &sheet, &records, &place);
+
+    check_answer(answer, place, &tables, &sheet, &records);
+    check_no_room(answer, place, &tables, &sheet);
+    check_plain(answer, &tables, &sheet);
+    must(memcmp(old_tables.bytes, tables.bytes, tables.length) == 0, "the tables");
+    must(memcmp(old_sheet.bytes, sheet.bytes, sheet.length) == 0, "the sheet");
+    unharmed_around(&tables);
+    unharmed_around(&sheet);
+    free(tables.all), free(sheet.all), free(old_tables.all), free(old_sheet.all), free(records.all);
+    return 0;
+}
