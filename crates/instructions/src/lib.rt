@@ -49,6 +49,12 @@ pub enum Kinded {
     Refused(u64),
 }
 
+pub fn binary(op: BinOp, dst: Operand, src: Operand, size: Size) -> Instruction
+    ensures { λ r. ⌜ r ≡ Instruction.Binary op dst src size ⌝ }
+{
+    Instruction::Binary { op, dst, src, size }
+}
+
 pub fn mov(dst: Operand, src: Operand, size: Size) -> Instruction
     ensures { λ r. ⌜ r ≡ move dst src size ⌝ }
 {
