@@ -7,7 +7,10 @@
 
 #include "gilthoren.h"
 
-enum { GUARD = 64, MOST_BYTES = 1 << 16 };
+enum { GUARD = 64, MOST_ROOM = 1 << 14, MOST_BYTES = 1 << 16 };
+
+/* What lent memory holds before it is filled. */
+static uint8_t old[MOST_BYTES + 2 * GUARD];
 
 struct input {
     const uint8_t *at, *end;
@@ -37,28 +40,28 @@ static uint64_t number(struct input *in) {
     return n;
 }
 
-static uint8_t canary(size_t i) {
-    return (uint8_t)(0xa5 ^ i * 29);
+int LLVMFuzzerInitialize(int *argc, char ***argv) {
+    (void)argc, (void)argv;
+    for (size_t i = 0; i < sizeof old; i++) old[i] = (uint8_t)(0xa5 ^ i * 29 ^ i >> 8);
+    return 0;
 }
 
 static struct lent lend(size_t length) {
     struct lent l = {malloc(length + 2 * GUARD), NULL, length};
-    must(l.all != NULL, "memory");
+    must(l.all != NULL && length <= MOST_BYTES, "memory");
     l.bytes = l.all + GUARD;
-    for (size_t i = 0; i < length + 2 * GUARD; i++) l.all[i] = canary(i);
+    memcpy(l.all, old, length + 2 * GUARD);
     return l;
 }
 
 static void unharmed_around(const struct lent *l) {
-    for (size_t i = 0; i < GUARD; i++) {
-        size_t behind = GUARD + l->length + i;
-        must(l->all[i] == canary(i) && l->all[behind] == canary(behind), "a canary");
-    }
+    size_t behind = GUARD + l->length;
+    must(memcmp(l->all, old, GUARD) == 0 && memcmp(l->all + behind, old + behind, GUARD) == 0, "a canary");
 }
 
 /* Nothing was written from `from` on. */
 static void unharmed_from(const struct lent *l, size_t from) {
-    for (size_t i = GUARD + from; i < GUARD + l->length; i++) must(l->all[i] == canary(i), "old content");
+    must(memcmp(l->bytes + from, old + GUARD + from, l->length - from) == 0, "old content");
 }
 
 /* Counted cells, zigzag, then the bytes of a torn cell. */
@@ -67,6 +70,7 @@ static struct lent slice(struct input *in) {
     size_t left = (size_t)(in->end - in->at), torn;
     struct lent l;
     if (cells > left) cells = left;
+    if (cells > MOST_BYTES / 8 - 1) cells = MOST_BYTES / 8 - 1;
     l = lend(8 * cells + 7);
     for (uint64_t c = 0; c < cells; c++) {
         uint64_t z = number(in), v = (z >> 1) ^ (0 - (z & 1));
@@ -75,7 +79,7 @@ static struct lent slice(struct input *in) {
     torn = in->at < in->end ? *in->at++ % 8 : 0;
     for (size_t b = 0; b < torn; b++) l.bytes[8 * cells + b] = in->at < in->end ? *in->at++ : 0;
     l.length = 8 * cells + torn;
-    for (size_t i = GUARD + l.length; i < l.length + 2 * GUARD; i++) l.all[i] = canary(i);
+    memcpy(l.bytes + l.length, old + GUARD + l.length, GUARD);
     return l;
 }
 
@@ -122,7 +126,7 @@ int LLVMFuzzerTestOneInput(const uint8_t *data, size_t size) {
     struct input in = {data, data + size};
     struct lent tables = slice(&in), sheet = slice(&in);
     struct lent old_tables = copy_of(&tables), old_sheet = copy_of(&sheet);
-    struct lent records = lend((size_t)(number(&in) % MOST_BYTES));
+    struct lent records = lend((size_t)(number(&in) % MOST_ROOM));
     uint64_t place = UINT64_MAX, answer = lower(&tables, &sheet, &records, &place);
 
     check_answer(answer, place, &tables, &sheet, &records);
