@@ -1,0 +1,133 @@
+/* Cells to text and back, over every case of a file of answers (vectors/README.md has its form).
+ *
+ * usage: round_trip FILE
+ *
+ * Held for each case: the writer's verdict is the stored refusal 1 to 3 with its cell, or none; the text reads as the same bytes. Tables that
+ * are torn have no place in an input and are counted only. */
+#include <inttypes.h>
+#include <stdlib.h>
+#include <string.h>
+
+#include "../tools/sheet_text.h"
+
+/* A place in the file. */
+struct file {
+    struct bytes all;
+    size_t at;
+};
+
+struct answer {
+    struct bytes tables, sheet;
+    uint64_t number, place;
+};
+
+struct counts {
+    uint64_t words, raw, torn_tables, bytes;
+};
+
+static void stop(const char *what, uint64_t number) {
+    fprintf(stderr, "round_trip: case %" PRIu64 ": %s\n", number, what);
+    exit(1);
+}
+
+static uint8_t next_byte(struct file *f) {
+    if (f->at == f->all.count) stop("the file ends early", 0);
+    return f->all.at[f->at++];
+}
+
+/* LEB128, lowest seven bits first. */
+static uint64_t next_number(struct file *f) {
+    uint64_t value = 0;
+    unsigned shift = 0;
+    uint8_t byte;
+    do {
+        byte = next_byte(f);
+        value |= (uint64_t)(byte & 127) << shift;
+        shift += 7;
+    } while (byte > 127);
+    return value;
+}
+
+/* Zigzag: 2v, or -2v - 1 for a negative v. */
+static int64_t next_cell(struct file *f) {
+    uint64_t z = next_number(f);
+    return z & 1 ? -(int64_t)(z >> 1) - 1 : (int64_t)(z >> 1);
+}
+
+static void next_slice(struct file *f, struct bytes *slice) {
+    for (uint64_t cells = next_number(f); cells > 0; cells--) cell_add(slice, next_cell(f));
+    for (uint8_t torn = next_byte(f); torn > 0; torn--) bytes_add(slice, &(uint8_t){next_byte(f)}, 1);
+}
+
+static struct answer next_answer(struct file *f) {
+    struct answer a = {{0}, {0}, 0, 0};
+    next_slice(f, &a.tables);
+    next_slice(f, &a.sheet);
+    next_number(f);
+    a.number = next_number(f);
+    a.place = next_number(f);
+    for (uint64_t cells = a.number == 0 ? 8 * a.place : 0; cells > 0; cells--) next_cell(f);
+    for (uint64_t faults = next_number(f); faults > 0; faults--) next_number(f);
+    return a;
+}
+
+static void check(const struct answer *a, uint64_t number, struct counts *counts) {
+    struct bytes input = {0}, text = {0};
+    struct sheet_text back = {0};
+    struct sheet_error error = {0};
+    cell_add(&input, (int64_t)(a->tables.count / CELL));
+    bytes_add(&input, a->tables.at, a->tables.count);
+    bytes_add(&input, a->sheet.at, a->sheet.count);
+    struct sheet_refusal refusal = sheet_write(&input, &text);
+    bool is_refused = a->number >= 1 && a->number <= 3;
+    if (refusal.number != (is_refused ? (int)a->number : 0)) stop("another verdict on the layout", number);
+    if (is_refused && refusal.cell != a->place) stop("another cell is refused", number);
+    if (!sheet_read(&back, (char *)text.at, text.count, &error)) {
+        fprintf(stderr, "line %zu: %s\n", error.line, error.message);
+        stop("its text is not read", number);
+    }
+    if (back.input.count != input.count || memcmp(back.input.at, input.at, input.count) != 0) stop("its text is of other cells", number);
+    if (back.cell_lines.count != input.count / CELL) stop("not a line for each cell", number);
+    *(is_refused ? &counts->raw : &counts->words) += 1;
+    counts->bytes += text.count;
+    bytes_clear(&input);
+    bytes_clear(&text);
+    sheet_clear(&back);
+}
+
+/* The listing program's input as raw cells, also where no count of table cells stands at its start. */
+static void check_raw(size_t bytes) {
+    struct bytes input = {0}, text = {0};
+    struct sheet_text back = {0};
+    struct sheet_error error = {0};
+    for (size_t i = 0; i < bytes; i++) bytes_add(&input, &(uint8_t){(uint8_t)(255 - i)}, 1);
+    struct sheet_refusal refusal = sheet_write(&input, &text);
+    if (refusal.number != 1 || refusal.cell != 0) stop("an input without a count is not refused", bytes);
+    if (!sheet_read(&back, (char *)text.at, text.count, &error)) stop("raw cells are not read", bytes);
+    if (back.input.count != bytes || (bytes > 0 && memcmp(back.input.at, input.at, bytes) != 0)) stop("raw cells change", bytes);
+    bytes_clear(&input);
+    bytes_clear(&text);
+    sheet_clear(&back);
+}
+
+int main(int words, char **word) {
+    struct file file = {{0}, 8};
+    struct counts counts = {0};
+    FILE *from = words == 2 ? fopen(word[1], "rb") : NULL;
+    if (!from || !bytes_read(&file.all, from) || file.all.count < 8 || memcmp(file.all.at, "KRCVEC01", 8) != 0) stop("no file of answers", 0);
+    fclose(from);
+    uint64_t cases = next_number(&file);
+    for (uint64_t i = 0; i < cases; i++) {
+        struct answer a = next_answer(&file);
+        if (a.tables.count % CELL) counts.torn_tables++;
+        else check(&a, i, &counts);
+        bytes_clear(&a.tables);
+        bytes_clear(&a.sheet);
+    }
+    if (file.at != file.all.count) stop("bytes are left over", cases);
+    for (size_t bytes = 0; bytes < 30; bytes++) check_raw(bytes);
+    bytes_clear(&file.all);
+    printf("%" PRIu64 " round trips in words, %" PRIu64 " as raw cells, %" PRIu64 " torn tables left out, %" PRIu64 " bytes of text\n", counts.words,
+           counts.raw, counts.torn_tables, counts.bytes);
+    return 0;
+}
