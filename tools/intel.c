@@ -205,6 +205,17 @@ static bool put_unary(const struct print *p, const struct record *r) {
     return true;
 }
 
+static bool put_label_line(const struct print *p, const struct record *r) {
+    put_label(p, r->dst);
+    bytes_print(p->text, ":");
+    return r->operation == 0;
+}
+
+static bool put_prefix(const struct print *p, const struct record *r) {
+    bytes_print(p->text, "rep stosb");
+    return r->operation == REP_STOS && r->size == 1;
+}
+
 static bool put_instruction(const struct print *p, const struct record *r) {
     switch (r->form) {
     case FORM_BINARY: return put_binary(p, r);
@@ -213,8 +224,8 @@ static bool put_instruction(const struct print *p, const struct record *r) {
     case FORM_CTRL: return put_ctrl(p, r);
     case FORM_EXTEND: return put_extend(p, r);
     case FORM_LEA: return put_lea(p, r);
-    case FORM_LABEL: put_label(p, r->dst), bytes_print(p->text, ":"); return r->operation == 0;
-    case FORM_PREFIX: bytes_print(p->text, "rep stosb"); return r->operation == REP_STOS && r->size == 1;
+    case FORM_LABEL: return put_label_line(p, r);
+    case FORM_PREFIX: return put_prefix(p, r);
     case FORM_SET_CC: return put_set(p, r);
     case FORM_SHIFT: return put_shift(p, r);
     case FORM_STACK: return put_stack(p, r);

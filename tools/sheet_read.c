@@ -141,7 +141,8 @@ static bool digits(const char **at, const char *end, uint64_t limit, uint64_t *v
 
 /* A number of a cell: from -2^63 to 2^63 - 1. */
 static bool need_number(struct reader *r, int64_t *value) {
-    const char *at = (skip_blanks(r), r->at);
+    skip_blanks(r);
+    const char *at = r->at;
     bool negative = at < r->end && *at == '-';
     uint64_t size;
     if (negative) at++;
@@ -272,8 +273,9 @@ static bool need_int(struct reader *r, int64_t cells[4]) {
 
 /* The words that are operands by themselves, and constants of the tables. */
 static bool is_plain_operand(struct word word, int64_t cells[4]) {
+    cells[1] = is_word(word, "true");
     if (is_word(word, "null")) cells[0] = OPERAND_NULL;
-    else if (is_word(word, "true") || is_word(word, "false")) cells[0] = OPERAND_BOOL, cells[1] = is_word(word, "true");
+    else if (is_word(word, "true") || is_word(word, "false")) cells[0] = OPERAND_BOOL;
     else if (is_numbered(word, 'f', &cells[1])) cells[0] = OPERAND_FLOAT;
     else if (is_numbered(word, 's', &cells[1])) cells[0] = OPERAND_DATA_ADDRESS;
     else return false;
@@ -485,10 +487,14 @@ static bool read_bytes(struct reader *r) {
     int64_t value;
     if (!start_raw(r)) return false;
     for (int count = 0; count == 0 || !at_end(r); count++) {
+        skip_blanks(r);
         const char *start = r->at;
         if (count == CELL - 1) return expected(r, "at most seven bytes");
         if (!need_number(r, &value)) return false;
-        if (value < 0 || value > 255) return r->at = start, expected(r, "a byte from 0 to 255");
+        if (value < 0 || value > 255) {
+            r->at = start;
+            return expected(r, "a byte from 0 to 255");
+        }
         bytes_add(&r->raw.cells, &(uint8_t){(uint8_t)value}, 1);
     }
     return true;

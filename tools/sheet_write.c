@@ -35,6 +35,12 @@ static void refuse(struct scan *s, int number, size_t cell) {
     if (s->refusal.number == 0) s->refusal = (struct sheet_refusal){number, cell};
 }
 
+/* Refuses the cell that is next; it reads as its least value. */
+static int64_t refuse_next(struct scan *s, int number, int64_t low) {
+    refuse(s, number, s->cell);
+    return low;
+}
+
 static bool at_end(const struct scan *s) {
     return s->cell * CELL == s->bytes;
 }
@@ -42,10 +48,10 @@ static bool at_end(const struct scan *s) {
 /* A cell from `low` to `high`; one above `limit` is oversize, any other one is off the layout. */
 static int64_t take_limited(struct scan *s, int64_t low, int64_t high, int64_t limit) {
     if (s->refusal.number) return low;
-    if (s->bytes / CELL <= s->cell) return refuse(s, s->wrong, s->cell), low;
+    if (s->bytes / CELL <= s->cell) return refuse_next(s, s->wrong, low);
     int64_t value = cell_at(s->at, s->cell);
-    if (value < low || value > high) return refuse(s, s->wrong, s->cell), low;
-    if (value > limit) return refuse(s, OVERSIZE, s->cell), low;
+    if (value < low || value > high) return refuse_next(s, s->wrong, low);
+    if (value > limit) return refuse_next(s, OVERSIZE, low);
     s->cell++;
     return value;
 }
@@ -115,8 +121,8 @@ static void write_operand(struct scan *s) {
     if (kind == OPERAND_FLOAT) bytes_print(s->text, "f%lld", (long long)take_id(s));
     if (kind == OPERAND_DATA_ADDRESS) bytes_print(s->text, "s%lld", (long long)take_id(s));
     if (kind == OPERAND_BOOL) bytes_print(s->text, "%s", take(s, 0, 1) ? "true" : "false");
-    if (kind == OPERAND_NULL) bytes_print(s->text, "null"), take_zeros(s, 1);
-    take_zeros(s, 2);
+    if (kind == OPERAND_NULL) bytes_print(s->text, "null");
+    take_zeros(s, kind == OPERAND_NULL ? 3 : 2);
 }
 
 /* -- instructions: each starts behind its kind -- */
@@ -192,6 +198,11 @@ static void write_label(struct scan *s, const char *before, const char *behind) 
     take_zeros(s, 11);
 }
 
+static void write_comment(struct scan *s) {
+    bytes_print(s->text, "comment");
+    take_zeros(s, 12);
+}
+
 static void write_instruction(struct scan *s) {
     switch ((enum sheet_instr)take(s, INSTR_COPY, INSTR_COMMENT)) {
     case INSTR_COPY: write_copy(s, ""); break;
@@ -204,7 +215,7 @@ static void write_instruction(struct scan *s) {
     case INSTR_JUMP: write_label(s, "jump ", ""); break;
     case INSTR_JUMP_IF_NOT: write_jump_if_not(s); break;
     case INSTR_RETURN: write_return(s); break;
-    case INSTR_COMMENT: bytes_print(s->text, "comment"), take_zeros(s, 12); break;
+    case INSTR_COMMENT: write_comment(s); break;
     }
     bytes_print(s->text, "\n");
 }
