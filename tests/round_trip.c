@@ -6,71 +6,14 @@
  * copy of the text is read too: it gives an error with a line of the text, or an input that makes the trip in its turn. Tables that are torn
  * have no place in an input and are counted only. */
 #include <inttypes.h>
-#include <stdlib.h>
 #include <string.h>
 
 #include "../tools/sheet_text.h"
-
-/* A place in the file. */
-struct file {
-    struct bytes all;
-    size_t at;
-};
-
-struct answer {
-    struct bytes tables, sheet;
-    uint64_t number, place;
-};
+#include "cases.h"
 
 struct counts {
     uint64_t words, raw, torn_tables, damaged_read, damaged_refused;
 };
-
-static void stop(const char *what, uint64_t number) {
-    fprintf(stderr, "round_trip: case %" PRIu64 ": %s\n", number, what);
-    exit(1);
-}
-
-static uint8_t next_byte(struct file *f) {
-    if (f->at == f->all.count) stop("the file ends early", 0);
-    return f->all.at[f->at++];
-}
-
-/* LEB128, lowest seven bits first. */
-static uint64_t next_number(struct file *f) {
-    uint64_t value = 0;
-    unsigned shift = 0;
-    uint8_t byte;
-    do {
-        byte = next_byte(f);
-        value |= (uint64_t)(byte & 127) << shift;
-        shift += 7;
-    } while (byte > 127);
-    return value;
-}
-
-/* Zigzag: 2v, or -2v - 1 for a negative v. */
-static int64_t next_cell(struct file *f) {
-    uint64_t z = next_number(f);
-    return z & 1 ? -(int64_t)(z >> 1) - 1 : (int64_t)(z >> 1);
-}
-
-static void next_slice(struct file *f, struct bytes *slice) {
-    for (uint64_t cells = next_number(f); cells > 0; cells--) cell_add(slice, next_cell(f));
-    for (uint8_t torn = next_byte(f); torn > 0; torn--) bytes_add(slice, &(uint8_t){next_byte(f)}, 1);
-}
-
-static struct answer next_answer(struct file *f) {
-    struct answer a = {{0}, {0}, 0, 0};
-    next_slice(f, &a.tables);
-    next_slice(f, &a.sheet);
-    next_number(f);
-    a.number = next_number(f);
-    a.place = next_number(f);
-    for (uint64_t cells = a.number == 0 ? 8 * a.place : 0; cells > 0; cells--) next_cell(f);
-    for (uint64_t faults = next_number(f); faults > 0; faults--) next_number(f);
-    return a;
-}
 
 /* Writes an input as text and reads it again: the same input. The text is handed out. */
 static struct sheet_refusal trip(const struct bytes *input, uint64_t number, struct bytes *text) {
@@ -79,11 +22,11 @@ static struct sheet_refusal trip(const struct bytes *input, uint64_t number, str
     struct sheet_refusal refusal = sheet_write(input, text);
     if (!sheet_read(&back, (char *)text->at, text->count, &error)) {
         fprintf(stderr, "line %zu: %s\n", error.line, error.message);
-        stop("its text is not read", number);
+        cases_stop("its text is not read", number);
     }
     if (back.input.count != input->count || (input->count > 0 && memcmp(back.input.at, input->at, input->count) != 0))
-        stop("its text is of other cells", number);
-    if (back.cell_lines.count != input->count / CELL) stop("not a line for each cell", number);
+        cases_stop("its text is of other cells", number);
+    if (back.cell_lines.count != input->count / CELL) cases_stop("not a line for each cell", number);
     sheet_clear(&back);
     return refusal;
 }
@@ -119,7 +62,7 @@ static void check_damaged(struct bytes *text, uint64_t number, struct counts *co
         trip(&sheet.input, number, &again);
         counts->damaged_read++;
     } else {
-        if (error.line < 1 || error.line > lines_of(text) || strncmp(error.message, "expected ", 9) != 0) stop("an error of no line", number);
+        if (error.line < 1 || error.line > lines_of(text) || strncmp(error.message, "expected ", 9) != 0) cases_stop("an error of no line", number);
         counts->damaged_refused++;
     }
     bytes_clear(&again);
@@ -133,8 +76,8 @@ static void check(const struct answer *a, uint64_t number, struct counts *counts
     bytes_add(&input, a->sheet.at, a->sheet.count);
     struct sheet_refusal refusal = trip(&input, number, &text);
     bool is_refused = a->number >= 1 && a->number <= 3;
-    if (refusal.number != (is_refused ? (int)a->number : 0)) stop("another verdict on the layout", number);
-    if (is_refused && refusal.cell != a->place) stop("another cell is refused", number);
+    if (refusal.number != (is_refused ? (int)a->number : 0)) cases_stop("another verdict on the layout", number);
+    if (is_refused && refusal.cell != a->place) cases_stop("another cell is refused", number);
     *(is_refused ? &counts->raw : &counts->words) += 1;
     for (int i = 0; i < 3 && text.count > 0; i++) check_damaged(&text, number, counts);
     bytes_clear(&input);
@@ -146,28 +89,22 @@ static void check_raw(size_t bytes) {
     struct bytes input = {0}, text = {0};
     for (size_t i = 0; i < bytes; i++) bytes_add(&input, &(uint8_t){(uint8_t)(255 - i)}, 1);
     struct sheet_refusal refusal = trip(&input, bytes, &text);
-    if (refusal.number != 1 || refusal.cell != 0) stop("an input without a count is not refused", bytes);
+    if (refusal.number != 1 || refusal.cell != 0) cases_stop("an input without a count is not refused", bytes);
     bytes_clear(&input);
     bytes_clear(&text);
 }
 
 int main(int words, char **word) {
-    struct file file = {{0}, 8};
+    struct cases cases = cases_open(words == 2 ? word[1] : NULL);
     struct counts counts = {0};
-    FILE *from = words == 2 ? fopen(word[1], "rb") : NULL;
-    if (!from || !bytes_read(&file.all, from) || file.all.count < 8 || memcmp(file.all.at, "KRCVEC01", 8) != 0) stop("no file of answers", 0);
-    fclose(from);
-    uint64_t cases = next_number(&file);
-    for (uint64_t i = 0; i < cases; i++) {
-        struct answer a = next_answer(&file);
+    for (uint64_t i = 0; i < cases.count; i++) {
+        struct answer a = cases_next(&cases);
         if (a.tables.count % CELL) counts.torn_tables++;
         else check(&a, i, &counts);
-        bytes_clear(&a.tables);
-        bytes_clear(&a.sheet);
+        answer_clear(&a);
     }
-    if (file.at != file.all.count) stop("bytes are left over", cases);
+    cases_close(&cases);
     for (size_t bytes = 0; bytes < 30; bytes++) check_raw(bytes);
-    bytes_clear(&file.all);
     printf("%" PRIu64 " round trips in words, %" PRIu64 " as raw cells, %" PRIu64 " torn tables left out, ", counts.words, counts.raw,
            counts.torn_tables);
     printf("damaged texts: %" PRIu64 " read, %" PRIu64 " refused\n", counts.damaged_read, counts.damaged_refused);

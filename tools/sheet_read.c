@@ -376,10 +376,10 @@ static bool read_jump(struct reader *r, struct row *row) {
 
 /* A word, a colon and nothing more is a label that stands here. */
 static bool is_label_line(struct reader *r) {
-    const char *start = r->at;
-    r->at += peek_word(r).length;
-    bool is_label = r->at > start && take_sign(r, ':') && at_end(r);
-    r->at = start;
+    struct word word = peek_word(r);
+    r->at += word.length;
+    bool is_label = word.length > 0 && take_sign(r, ':') && at_end(r);
+    r->at = word.at;
     return is_label;
 }
 
