@@ -5,7 +5,8 @@ usage: intel.py GILTHOREN-INTEL [--store]
 
 1. tests/intel.txt has one record of each shape (form, operation, tags, sizes) in the fixed list, with its text; --store writes it anew, to be read.
 2. Every record of the fixed list that differs from the others goes through as: it takes all that are not marked 'no encoding', and none that is.
-3. The lists of the fixed list's plain functions, assembled from this text and from that of oracle/src/processor/asm.rs, are the same bytes.
+3. In every tenth list the variable beside a memory operand is the one whose slot it lies in.
+4. The lists of the fixed list's plain functions, assembled from this text and from that of oracle/src/processor/asm.rs, are the same bytes.
 """
 import pathlib, re, shutil, subprocess, sys, tempfile
 
@@ -95,6 +96,46 @@ def check_encodings(tool, cases, folder):
     return len(records), sum(marked for _, marked in pairs)
 
 
+# bytes of a type, by its code
+SIZES = {1: 8, 2: 8, 3: 4, 4: 4, 5: 8, 6: 4, 7: 1, 8: 1, 9: 1, 10: 8}
+
+
+def variable_types(case):
+    """Code and count of each variable."""
+    cells = [int.from_bytes(case.sheet[k:k + 8], "little", signed=True) for k in range(0, len(case.sheet), 8)]
+    return [(cells[6 + 2 * v], cells[7 + 2 * v]) for v in range(cells[0])]
+
+
+def owners(types):
+    """For each byte of the slots, as RBP plus a value, the variable that has it."""
+    owner, offset = {}, 0
+    for variable, (kind, count) in enumerate(types):
+        size = SIZES[kind] * (1 if count == -1 else count)
+        offset += size
+        owner.update({at - offset: variable for at in range(size)})
+    return owner
+
+
+def check_slots(tool, cases, folder):
+    """The variable behind ';' is the owner of the byte that a memory operand starts at; all types come up."""
+    sheet, count, kinds = folder / "sheet", 0, set()
+    for case in [c for c in cases if c.number == 0][::10]:
+        sheet.write_bytes((len(case.tables) // 8).to_bytes(8, "little") + case.tables + case.sheet)
+        owner = owners(variable_types(case))
+        done = subprocess.run([tool, sheet], input=listing(case.records), capture_output=True, text=True)
+        for record, line in zip(case.records, done.stdout.splitlines()[1:], strict=True):
+            value = next((record[k + 1] for k in (2, 4) if record[k] == 5), None)
+            shown_as = re.search(r"; (v\d+)", line)
+            if (shown_as and shown_as[1]) != (f"v{owner[value]}" if value in owner else None):
+                stop(f"case {case.index}: not the variable at {value}: {line}")
+            if shown_as:
+                kinds |= {kind for kind, _ in variable_types(case)[:owner[value] + 1]}
+                count += 1
+    if kinds != set(SIZES):
+        stop(f"no variable of types {set(SIZES) - kinds} comes up")
+    return count
+
+
 def code(folder, name, text):
     refused, made = assemble(folder, name, text)
     if refused:
@@ -130,15 +171,20 @@ def main():
     tool, store = sys.argv[1], "--store" in sys.argv
     cases = vectors.load(ROOT / "vectors/answers.bin")
     shapes = check_shapes(tool, cases, store)
-    missing = [name for name in ("as", "objcopy") if not shutil.which(name)]
-    if missing:
-        print(f"intel: {shapes} shapes; no {missing[0]}: what is assembled is skipped")
-        return
     with tempfile.TemporaryDirectory() as name:
         folder = pathlib.Path(name)
+        slots = check_slots(tool, cases, folder)
+        print(f"intel: {shapes} shapes, {slots} operands with their variables")
+        missing = [name for name in ("as", "objcopy") if not shutil.which(name)]
+        if missing:
+            print(f"intel: skipped: no {missing[0]}: what is assembled")
+            return
         records, refused = check_encodings(tool, cases, folder)
-        held = f"{check_oracle(tool, cases, folder)} held to the oracle's" if shutil.which("rustc") else "no rustc: the oracle's text is skipped"
-    print(f"intel: {shapes} shapes, {records} records through as ({refused} without an encoding), {held}")
+        print(f"intel: {records} records through as, {refused} without an encoding")
+        if not shutil.which("rustc"):
+            print("intel: skipped: no rustc: the oracle's text")
+            return
+        print(f"intel: {check_oracle(tool, cases, folder)} records held to the oracle's text")
 
 
 if __name__ == "__main__":

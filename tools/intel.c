@@ -20,12 +20,10 @@ enum tag { TAG_NONE, TAG_REGISTER, TAG_IMMEDIATE, TAG_SYMBOL, TAG_LABEL, TAG_RBP
 
 enum { GPRS = 16, XMMS = 8, CONDITIONS = 16, JMP_CC = 64, REP_STOS = 20 };
 
-/* BinOp */
-enum { MOV = 0, CMP = 9, LOAD_F = 11, DIV_F = 16, UCOMI_F = 18 };
+/* positions in Krc's BinOp */
+enum { MOV = 0, CMP = 9, LOAD_F = 11, UCOMI_F = 18 };
 /* ComplexBinOp */
 enum { DIV = 3, IMUL = 4, IDIV = 5 };
-/* ConvOp */
-enum { CVTSI2SD = 2, CVTSI2SS = 3, CVTTSD2SI = 6 };
 /* UnaryOp */
 enum { NEG = 0, NOT = 1, CDQ = 5, CQO = 6 };
 
