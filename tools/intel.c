@@ -67,9 +67,10 @@ static const char *pointer(int64_t size) {
 
 /* -- operands -- */
 
+/* With `.L` before it an assembler takes no name for a register, an instruction or a section; no name starts with a digit. */
 static void put_label(const struct print *p, int64_t label) {
     const char *name = p->sheet ? sheet_name(&p->sheet->labels, (size_t)label) : NULL;
-    if (name) bytes_print(p->text, ".%s", name);
+    if (name) bytes_print(p->text, ".L%s", name);
     else bytes_print(p->text, ".L%lld", (long long)label);
 }
 

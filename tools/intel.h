@@ -9,7 +9,7 @@ struct record {
     int64_t form, operation, dst_tag, dst, src_tag, src, size, source_size;
 };
 
-/* Adds a record's instruction to a text; a label is `.name:`. `sheet` gives the names of labels and may be NULL. False, with nothing
+/* Adds a record's instruction to a text; a label is `.L0:` or `.Lname:`. `sheet` gives the names of labels and may be NULL. False, with nothing
  * added, if no accepted list can hold the record. */
 bool intel_print(const struct record *record, const struct sheet_text *sheet, struct bytes *text);
 
