@@ -1,0 +1,144 @@
+/* The listing program's text with the instruction of each record beside its numbers, in Intel syntax. */
+#include <errno.h>
+#include <stdlib.h>
+#include <string.h>
+
+#include "intel.h"
+#include "refusals.h"
+
+static const char USAGE[] = "usage: gilthoren-intel [CELLS or TEXT] < LISTING\n";
+
+enum { NUMBERS_WIDTH = 32, LONGEST_LINE = 256 };
+
+/* A listing on its way through. */
+struct listing {
+    char line[LONGEST_LINE];
+    size_t number; /* of the line, from 1 */
+    const struct sheet_text *sheet;
+    struct bytes text;
+};
+
+static int fails(const struct listing *l, const char *message) {
+    fprintf(stderr, "gilthoren-intel: line %zu: %s\n", l->number, message);
+    return 1;
+}
+
+/* The next line without its end; false if there is none or it is too long. */
+static bool next_line(struct listing *l) {
+    l->number++;
+    if (!fgets(l->line, sizeof l->line, stdin)) return false;
+    size_t length = strcspn(l->line, "\r\n");
+    if (length == sizeof l->line - 1) return false;
+    l->line[length] = 0;
+    return true;
+}
+
+/* So many numbers with single blanks between them, and nothing else. */
+static bool numbers(const char *at, int64_t *value, int count) {
+    for (int i = 0; i < count; i++) {
+        char *end;
+        if (*at != '-' && (*at < '0' || *at > '9')) return false;
+        errno = 0;
+        value[i] = strtoll(at, &end, 10);
+        if (errno || end == at || *end != (i + 1 < count ? ' ' : 0)) return false;
+        at = end + 1;
+    }
+    return true;
+}
+
+/* The variable of a memory operand by its name, or as v and its number; then what the processor lacks. */
+static void put_comment(struct listing *l, const struct record *record) {
+    size_t variable;
+    bool has_variable = intel_variable(record, l->sheet, &variable), lacks = intel_has_no_encoding(record);
+    if (has_variable || lacks) bytes_print(&l->text, "  ; ");
+    if (has_variable) {
+        const char *name = sheet_name(&l->sheet->variables, variable);
+        if (name) bytes_print(&l->text, "%s", name);
+        else bytes_print(&l->text, "v%zu", variable);
+    }
+    if (lacks) bytes_print(&l->text, "%sno encoding", has_variable ? ", " : "");
+}
+
+static bool put_record(struct listing *l) {
+    int64_t n[8];
+    if (!numbers(l->line, n, 8)) return false;
+    struct record record = {n[0], n[1], n[2], n[3], n[4], n[5], n[6], n[7]};
+    bool is_label = record.form == 9;
+    bytes_print(&l->text, "%-*s %s", NUMBERS_WIDTH, l->line, is_label ? "" : "    ");
+    if (!intel_print(&record, l->sheet, &l->text)) return false;
+    put_comment(l, &record);
+    bytes_print(&l->text, "\n");
+    return true;
+}
+
+/* True if the sheet has slots to look a variable up in. */
+static bool is_readable(const struct sheet_text *sheet) {
+    struct bytes text = {0};
+    bool good = sheet_write(&sheet->input, &text).number == 0;
+    bytes_clear(&text);
+    return good;
+}
+
+/* Behind `ok`: so many records and nothing more. */
+static int accepted(struct listing *l, int64_t records) {
+    if (l->sheet && !is_readable(l->sheet)) return fails(l, "a list, but the file has a sheet that is not readable");
+    bytes_print(&l->text, "%s\n", l->line);
+    for (int64_t i = 0; i < records; i++) {
+        if (!next_line(l)) return fails(l, "expected a record");
+        if (!put_record(l)) return fails(l, "expected eight numbers of a record that a list can hold");
+    }
+    if (next_line(l) || !feof(stdin)) return fails(l, "expected the end of the listing");
+    return 0;
+}
+
+static int refused(struct listing *l, uint64_t number, uint64_t place) {
+    bytes_print(&l->text, "%s: %s, %s (", l->line, refusal_word(number), refusal_meaning(number));
+    refusal_place(l->sheet, number, place, &l->text);
+    bytes_print(&l->text, ")\n");
+    return 0;
+}
+
+static int show(struct listing *l) {
+    int64_t value[2];
+    bool has_line = next_line(l);
+    if (has_line && strncmp(l->line, "ok ", 3) == 0 && numbers(l->line + 3, value, 1) && value[0] >= 0) return accepted(l, value[0]);
+    if (has_line && strncmp(l->line, "refused ", 8) == 0 && numbers(l->line + 8, value, 2) && value[0] >= 1 && value[0] <= 9 && value[1] >= 0)
+        return refused(l, (uint64_t)value[0], (uint64_t)value[1]);
+    if (has_line && strcmp(l->line, "too long") == 0) {
+        bytes_print(&l->text, "too long: the input has more than 65536 bytes\n");
+        return 0;
+    }
+    return fails(l, "expected 'ok' and a count, 'refused' with number and place, or 'too long'");
+}
+
+/* Reads the file that gives names and slots. */
+static bool take_names(const char *path, struct sheet_text *sheet) {
+    struct bytes file = {0};
+    struct sheet_error error;
+    FILE *from = fopen(path, "rb");
+    bool good = from && bytes_read(&file, from);
+    if (from) fclose(from);
+    if (!good) {
+        fprintf(stderr, "gilthoren-intel: %s: cannot be read\n", path);
+    } else if (!sheet_take(sheet, &file, &error)) {
+        fprintf(stderr, "gilthoren-intel: %s: line %zu: %s\n", path, error.line, error.message);
+        good = false;
+    }
+    bytes_clear(&file);
+    return good;
+}
+
+int main(int count, char **words) {
+    struct listing l = {.number = 0};
+    struct sheet_text sheet = {0};
+    if (count > 2) {
+        fputs(USAGE, stderr);
+        return 2;
+    }
+    if (count == 2) l.sheet = &sheet;
+    int status = count == 2 && !take_names(words[1], &sheet) ? 1 : show(&l);
+    if (status == 0 && !bytes_write(&l.text, stdout)) status = fails(&l, "cannot write");
+    bytes_clear(&l.text);
+    sheet_clear(&sheet);
+    return status;
+}

@@ -1,0 +1,14 @@
+/* Refusals in words. */
+#ifndef GILTHOREN_REFUSALS_H
+#define GILTHOREN_REFUSALS_H
+
+#include "sheet_text.h"
+
+/* The word of a refusal and what it means; numbers are from 1 to 9. */
+const char *refusal_word(uint64_t number);
+const char *refusal_meaning(uint64_t number);
+
+/* Adds where a refusal's place is: the cell, the instruction, and the line of the text where there is one. */
+void refusal_place(const struct sheet_text *sheet, uint64_t number, uint64_t place, struct bytes *text);
+
+#endif
