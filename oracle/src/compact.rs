@@ -88,6 +88,14 @@ pub fn parse(bytes: &[u8]) -> Option<Vec<Case>> {
     reader.rest.is_empty().then_some(cases)
 }
 
+/// Counted inputs without answers: tables, sheet, and the number of record bytes.
+pub fn parse_inputs(bytes: &[u8]) -> Option<Vec<Case>> {
+    let mut reader = Reader { rest: bytes };
+    let count = reader.number()?;
+    let cases: Vec<Case> = (0..count).map(|_| reader.input()).collect::<Option<_>>()?;
+    reader.rest.is_empty().then_some(cases)
+}
+
 struct Reader<'a> {
     rest: &'a [u8],
 }
@@ -133,6 +141,11 @@ impl Reader<'_> {
             *cell = self.cell()?;
         }
         Some(record)
+    }
+
+    fn input(&mut self) -> Option<Case> {
+        let (tables, sheet, out_len) = (self.slice()?, self.slice()?, self.number()?);
+        Some(Case::answered(tables, sheet, out_len))
     }
 
     fn case(&mut self) -> Option<Case> {

@@ -3,13 +3,16 @@
 use std::collections::HashSet;
 
 use crate::cases::{any, damaged, limits, plain, plain_edges, systematic};
-use crate::compact::Case;
+use crate::compact::{Case, parse_inputs};
 use crate::rng::Rng;
 
 /// Random functions of every kind, plain ones, and damaged copies.
 const ANY: usize = 300;
 const PLAIN: usize = 250;
 const DAMAGED: usize = 250;
+
+/// What the fuzzer found beyond the other cases (tests/fuzz/collect.py).
+const FUZZED: &[u8] = include_bytes!("cases/fuzzed.bin");
 
 pub fn cases() -> Vec<Case> {
     let mut rng = Rng::new(1);
@@ -21,6 +24,7 @@ pub fn cases() -> Vec<Case> {
     all.extend((0..PLAIN).map(|_| plain::draft(&mut rng).input().with_random_room(&mut rng)));
     all.extend((0..DAMAGED).map(|_| damaged(&mut rng, &small)));
     all.extend(limits);
+    all.extend(parse_inputs(FUZZED).expect("a file of inputs"));
     without_repeats(all)
 }
 

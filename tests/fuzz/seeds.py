@@ -40,4 +40,5 @@ def main(folder, most=4096):
     print(f"seeds: {count} written")
 
 
-main(*sys.argv[1:])
+if __name__ == "__main__":
+    main(*sys.argv[1:])

@@ -1,0 +1,53 @@
+"""Writes the fuzzer's finds as cases without answers, for the oracle's fixed list: collect.py FOLDER OUT.
+
+FOLDER has what `target/fuzz/fuzzer -merge=1 FOLDER target/fuzz/seeds target/fuzz/corpus` keeps beyond the seeds. OUT is oracle/src/cases/fuzzed.bin:
+a count, then tables, sheet and the number of record bytes of each, in the compact form of vectors/README.md. Cut-off inputs are read as the driver reads them.
+"""
+import pathlib
+import sys
+
+from seeds import slice_of, varint
+
+MOST_BYTES = 1 << 16
+MOST_ROOM = 1 << 14
+
+
+class Input:
+    def __init__(self, data):
+        self.data, self.at = data, 0
+
+    def byte(self):
+        self.at += 1
+        return self.data[self.at - 1] if self.at <= len(self.data) else None
+
+    def number(self):
+        value = 0
+        for shift in range(0, 64, 7):
+            byte = self.byte()
+            if byte is None:
+                break
+            value |= (byte & 127) << shift
+            if byte < 128:
+                break
+        return value % (1 << 64)
+
+    def slice(self):
+        count = min(self.number(), max(len(self.data) - self.at, 0), MOST_BYTES // 8 - 1)
+        zigzag = [self.number() for _ in range(count)]
+        cells = b"".join(((z >> 1) ^ (-(z & 1) % (1 << 64))).to_bytes(8, "little") for z in zigzag)
+        torn = (self.byte() or 0) % 8
+        return cells + bytes((self.byte() or 0) for _ in range(torn))
+
+
+def main(folder, out):
+    cases = set()
+    for file in sorted(pathlib.Path(folder).iterdir()):
+        data = Input(file.read_bytes())
+        cases.add((data.slice(), data.slice(), data.number() % MOST_ROOM))
+    body = b"".join(slice_of(t) + slice_of(s) + varint(room) for t, s, room in sorted(cases))
+    pathlib.Path(out).write_bytes(varint(len(cases)) + body)
+    print(f"fuzzed: {len(cases)} cases written")
+
+
+if __name__ == "__main__":
+    main(*sys.argv[1:])
