@@ -9,6 +9,7 @@ use instructions::generate_jump;
 use instructions::generate_label;
 use instructions::generate_return;
 use instructions::generate_zero;
+use integers::count_instr;
 use ir::Instr;
 use ir::Type;
 use ir::read::instr_at;
@@ -16,6 +17,7 @@ use records::List;
 use records::Records;
 use records::put_records;
 use utils::Made;
+use utils::room;
 use x86::enums::Instruction;
 use x86::record::record_of;
 ghost use mathlib.Core.Path.{_≡_};
@@ -81,8 +83,8 @@ fn generate_instr(tables: &[u8], offsets: &[u64], labels: u64, ret: Type, i: Ins
     }
 }
 
-// The records of the instruction at cell `k`, in a function of so many labels and a return type, from `at` on.
-pub fn put_instr(
+// Any instruction, by its list maker.
+fn put_made(
     tables: &[u8],
     offsets: &[u64],
     sheet: &[u8],
@@ -107,4 +109,30 @@ pub fn put_instr(
         return generate_call(tables, offsets, sheet, count, k + 13, dest, symbol, out, at);
     }
     put_records(out, at, generate_instr(tables, offsets, labels, ret, i))
+}
+
+// The records of the instruction at cell `k`, in a function of so many labels and a return type, from `at` on. Without room for one they are only counted.
+pub fn put_instr(
+    tables: &[u8],
+    offsets: &[u64],
+    sheet: &[u8],
+    k: usize,
+    labels: u64,
+    ret: Type,
+    out: &mut [u8],
+    at: usize,
+) -> Made
+    requires { ⌜ behind (now sheet) k ≤ cells (now sheet) ⌝ }
+    requires { ⌜ argumentsAt (now sheet) k ≤ 64 ⌝ }
+    requires { ⌜ at ≤ 4294967296 ⌝ }
+    ensures { λ r. ⌜ madeSays r ≡ counted (generateInstr (lent (now (tables .entry)) (now (offsets .entry))) labels ret (instrAt (now (sheet .entry)) k) (operandsAt (now (sheet .entry)) (argumentsAt (now (sheet .entry)) k) (k + 13))) ⌝ }
+    ensures { λ r. ⌜ PutAll at (generateInstr (lent (now (tables .entry)) (now (offsets .entry))) labels ret (instrAt (now (sheet .entry)) k) (operandsAt (now (sheet .entry)) (argumentsAt (now (sheet .entry)) k) (k + 13))) (now (out .entry)) (now (out .exit)) ⌝ }
+{
+    if room(out.len(), at) == 0 {
+        let n = count_instr(offsets, sheet, k, labels);
+        if n != 0 {
+            return Made::Records(n);
+        }
+    }
+    put_made(tables, offsets, sheet, k, labels, ret, out, at)
 }

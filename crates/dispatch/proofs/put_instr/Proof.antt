@@ -1,69 +1,40 @@
+use Prim.Native.Nat.{_+_}
 use mathlib.Core.Path.{sym, ap, _∙_}
-use native.Mathlib.Omega.{arith}
+use Rattle.ir.specs.Types.{ok}
+use Rattle.ir.specs.Function.{instrAt, operandsAt, argumentsAt}
 use Rattle.codegen.specs.Generation.{generateInstr}
-use Rattle.records.specs.Records.{countedRecords, placedRecords}
-use Rattle.dispatch.proofs.Calls.{thirteen, inside, call-count, no-call, put-all}
+use Rattle.utils.specs.Answers.{lent}
+use Rattle.integers.proofs.Quick.{quick-counted}
+use Rattle.dispatch.proofs.Calls.{thirteen}
+use Rattle.dispatch.proofs.Counts.{only-counted}
 use borrow.Author.Needs.{needs}
 use Rattle.dispatch.proofs.put_instr.Statement.{statement}
 use Rattle.dispatch.proofs.put_instr.Tie as tie
 
-instr-at-requires : tie.Need-instr-at-requires
-instr-at-requires c κs = thirteen (c .before .before .before .before .args .sheet .now) (c .before .before .before .before .args .k) (c .before .before .before .before .pre .0)
+room-requires : tie.Need-room-requires
+room-requires c κs = search needs
 
-enum-known-i : tie.Need-enum-known-i
-enum-known-i c = search needs
+count-instr-requires : tie.Need-count-instr-requires
+count-instr-requires c κs = thirteen (c .before .before .before .before .before .before .args .sheet .now) (c .before .before .before .before .before .before .args .k) (c .before .before .before .before .before .before .pre .0)
 
-add-generate-call : tie.Need-add-generate-call
-add-generate-call c = omega (arith, thirteen (c .before .before .before .before .before .before .before .before .args .sheet .now) (c .before .before .before .before .before .before .before .before .args .k) (c .before .before .before .before .before .before .before .before .pre .0), c .before .before .before .before .before .before .before .before .good)
+returns : tie.Need-returns
+returns c =
+    let a = c .before .before .before .before .before .before .before .before .args in
+    let q = c .before .count-instr .ensures in
+    let l = lent (a .tables .now) (a .offsets .now) in
+    let s = a .sheet .now in
+    let x = generateInstr l (a .labels) (a .ret) (instrAt s (a .k)) (operandsAt s (argumentsAt s (a .k)) (a .k + 13)) in
+    only-counted (a .at) x (a .out .now) _ (sym (c .before .before .before .room .ensures) ∙ c .before .before .if1 .taken) (c .if2 .taken)
+    (quick-counted l (a .labels) (a .ret) (instrAt s (a .k)) _ (λ z. c .if2 .taken (q ∙ z)) ∙ ap ok (sym q))
 
-generate-call-requires : tie.Need-generate-call-requires
-generate-call-requires c κs =
-    let s = c .before .before .before .before .before .before .before .before .before .args .sheet .now in
-    let k = c .before .before .before .before .before .before .before .before .before .args .k in
-    let e = call-count s k (sym (c .before .before .before .before .instr-at .ensures) ∙ c .before .before .i .given .1) in
-    (inside s k e (c .before .before .before .before .before .before .before .before .before .pre .0), (rw (← e) (c .before .before .before .before .before .before .before .before .before .pre .1 .0), c .before .before .before .before .before .before .before .before .before .pre .1 .1))
+put-made-requires : tie.Need-put-made-requires
+put-made-requires c κs = c .before .before .before .before .before .before .before .pre
 
 same-length : tie.Need-same-length
 same-length c = search needs
 
-returns : tie.Need-returns
-unfolding generateInstr
-returns c =
-    let s = c .before .before .before .before .before .before .before .before .before .before .before .before .args .sheet .now in
-    let k = c .before .before .before .before .before .before .before .before .before .before .before .before .args .k in
-    let f = (sym (c .before .before .before .before .before .before .before .instr-at .ensures) ∙ c .before .before .before .before .before .i .given .1) in
-    let e = call-count s k f in
-    rw (f, e) (c .before .before .generate-call .ensures)
-
-generate-instr-requires : tie.Need-generate-instr-requires
-generate-instr-requires c κs = search needs
-
-put-records-requires : tie.Need-put-records-requires
-put-records-requires c κs = search needs
-
-same-length-2 : tie.Need-same-length-2
-same-length-2 c = search needs
-
 returns-2 : tie.Need-returns-2
-returns-2 c =
-    let a = c .before .before .before .before .before .before .before .before .before .before .before .args in
-    let i = c .before .before .before .before .before .before .instr-at in
-    let g = c .before .before .before .generate-instr .ensures in
-    let r = c .before .before .put-records .ensures in
-    rw (← i .ensures)
-    (put-all (a .at) _ _ (a .out .now) (no-call _ _ _ (i .result) _ (c .before .before .before .before .before .match .keys2)) (r .0 ∙ ap countedRecords g) (r .1 ∙ ap (λ x. placedRecords (a .at) x (a .out .now)) g))
+returns-2 c = c .before .before .put-made .ensures
 
 pub put-instr-spec : {M : Type 1} → statement M
-put-instr-spec =
-    tie.close
-    (tie.spec
-    instr-at-requires
-    enum-known-i
-    add-generate-call
-    generate-call-requires
-    same-length
-    returns
-    generate-instr-requires
-    put-records-requires
-    same-length-2
-    returns-2)
+put-instr-spec = tie.close (tie.spec room-requires count-instr-requires returns put-made-requires same-length returns-2)

@@ -1,0 +1,296 @@
+-- The quick count is the number of the list maker's records.
+use Prim.Native.Nat.{ℕ, zero, suc}
+use mathlib.Core.Path.{_≡_, refl, sym, ap, _∙_}
+use mathlib.Core.Bool.{Bool, true, false, cond, _&&_, _||_}
+use mathlib.Core.List.{List, [], _∷_, _++_}
+use lib.ListN.{length, getD}
+use lib.Dec.{ltb, eqb}
+use Rattle.ir.specs.declared.«Type».{«Type» as IrType}
+use Rattle.ir.specs.declared.VarId.{VarId}
+use Rattle.ir.specs.declared.UnaryOp.{UnaryOp as IrUnary}
+use Rattle.ir.specs.declared.Operand.{Operand as IrOp}
+use Rattle.ir.specs.declared.Instr.{Instr}
+use Rattle.ir.specs.Types.{Result, ok, refused, _>>=_, noArray, isScalar, elementWidth, bytes, typeSize, isFloat, isUnsigned, elfSize, operandSize}
+use Rattle.ir.specs.Function.{binaryOp}
+use Rattle.x86.specs.declared.register.Register.{Register}
+use Rattle.x86.specs.declared.enums.Size.{Size}
+use Rattle.x86.specs.declared.enums.Operand.{Operand}
+use Rattle.x86.specs.declared.enums.BinOp.{BinOp}
+use Rattle.x86.specs.declared.enums.ConditionCode.{ConditionCode}
+use Rattle.x86.specs.declared.enums.Instruction.{Instruction}
+use Rattle.x86.specs.Registers.{RAX, RCX, RDX, xmm}
+use Rattle.codegen.specs.Context.{Context, displacement, labelAt}
+use Rattle.codegen.specs.Utils.{sizeFrom, varSize, convertVar, convertOperand, loadFrom, loadValue, loadOperand}
+use Rattle.codegen.specs.Instructions.{move, kind, Kind, operandKind, generateCopy, generateReturn, generateLabel, generateJump, generateJmpIfNot}
+use Rattle.codegen.specs.Arithmetic.{simpleOperation, twoLoads, dividing, division, multiplication, shift, compared, comparison, generateBinary, integerBinary, generateUnary}
+use Rattle.codegen.specs.Generation.{generateInstr}
+use Rattle.utils.specs.Answers.{counted}
+use Rattle.layout.proofs.Passed.{apart}
+use Rattle.integers.specs.Integers.{isInteger, isIntegerVar, isIntegerOperand, binaryCount, quickCount, slotOf, operandOf, loadOf}
+
+-- both of two tests
+first : (a b : Bool) → (a && b) ≡ true → a ≡ true
+first true b h = refl
+first false b h = apart (sym h)
+
+second : (a b : Bool) → (a && b) ≡ true → b ≡ true
+second true b h = h
+second false b h = apart (sym h)
+
+-- ---- variables
+
+-- the size of a move of an integer
+size-of-code : (code : ℕ) → isInteger code ≡ true → sizeFrom (elementWidth code) ≡ ok (cond (eqb (elementWidth code) 1) Size.U8 (cond (eqb (elementWidth code) 4) Size.U32 (cond (eqb (elementWidth code) 8) Size.U64 Size.NoSize)))
+unfolding isInteger elementWidth sizeFrom
+size-of-code zero h = apart (sym h)
+size-of-code (suc zero) h = refl
+size-of-code (suc (suc zero)) h = refl
+size-of-code (suc (suc (suc zero))) h = refl
+size-of-code (suc (suc (suc (suc zero)))) h = refl
+size-of-code (suc (suc (suc (suc (suc zero))))) h = apart (sym h)
+size-of-code (suc (suc (suc (suc (suc (suc zero)))))) h = apart (sym h)
+size-of-code (suc (suc (suc (suc (suc (suc (suc zero))))))) h = refl
+size-of-code (suc (suc (suc (suc (suc (suc (suc (suc zero)))))))) h = refl
+size-of-code (suc (suc (suc (suc (suc (suc (suc (suc (suc zero))))))))) h = refl
+size-of-code (suc (suc (suc (suc (suc (suc (suc (suc (suc (suc zero)))))))))) h = refl
+size-of-code (suc (suc (suc (suc (suc (suc (suc (suc (suc (suc (suc n))))))))))) h = apart (sym h)
+
+has-width : (code : ℕ) → isInteger code ≡ true → eqb (elementWidth code) 0 ≡ false
+unfolding isInteger elementWidth
+has-width zero h = apart (sym h)
+has-width (suc zero) h = refl
+has-width (suc (suc zero)) h = refl
+has-width (suc (suc (suc zero))) h = refl
+has-width (suc (suc (suc (suc zero)))) h = refl
+has-width (suc (suc (suc (suc (suc zero))))) h = apart (sym h)
+has-width (suc (suc (suc (suc (suc (suc zero)))))) h = apart (sym h)
+has-width (suc (suc (suc (suc (suc (suc (suc zero))))))) h = refl
+has-width (suc (suc (suc (suc (suc (suc (suc (suc zero)))))))) h = refl
+has-width (suc (suc (suc (suc (suc (suc (suc (suc (suc zero))))))))) h = refl
+has-width (suc (suc (suc (suc (suc (suc (suc (suc (suc (suc zero)))))))))) h = refl
+has-width (suc (suc (suc (suc (suc (suc (suc (suc (suc (suc (suc n))))))))))) h = apart (sym h)
+
+and-false : (b : Bool) → (b && false) ≡ false
+and-false true = refl
+and-false false = refl
+
+no-float : (code : ℕ) (b : Bool) → isInteger code ≡ true → (b && (eqb code 5 || eqb code 6)) ≡ false
+unfolding isInteger
+no-float zero b h = apart (sym h)
+no-float (suc zero) b h = and-false b
+no-float (suc (suc zero)) b h = and-false b
+no-float (suc (suc (suc zero))) b h = and-false b
+no-float (suc (suc (suc (suc zero)))) b h = and-false b
+no-float (suc (suc (suc (suc (suc zero))))) b h = apart (sym h)
+no-float (suc (suc (suc (suc (suc (suc zero)))))) b h = apart (sym h)
+no-float (suc (suc (suc (suc (suc (suc (suc zero))))))) b h = and-false b
+no-float (suc (suc (suc (suc (suc (suc (suc (suc zero)))))))) b h = and-false b
+no-float (suc (suc (suc (suc (suc (suc (suc (suc (suc zero))))))))) b h = and-false b
+no-float (suc (suc (suc (suc (suc (suc (suc (suc (suc (suc zero)))))))))) b h = and-false b
+no-float (suc (suc (suc (suc (suc (suc (suc (suc (suc (suc (suc n))))))))))) b h = apart (sym h)
+
+-- what is known of an integer variable with a slot
+pub sized : (n : ℕ) (v : VarId) → isIntegerVar n v ≡ true → varSize v ≡ ok (elfSize (v .ty))
+unfolding isIntegerVar varSize typeSize bytes elfSize
+sized n v h =
+    let t = second (ltb (v .id) n) _ h in
+    let c = second (isScalar (v .ty)) _ t in
+    rw (has-width (v .ty .code) c, first (isScalar (v .ty)) _ t) (size-of-code (v .ty .code) c)
+
+pub slotted : (ctx : Context) (v : VarId) → isIntegerVar (length (ctx .offsets)) v ≡ true → convertVar ctx v ≡ ok (slotOf ctx v)
+unfolding isIntegerVar convertVar displacement slotOf
+slotted ctx v h = rw (first (ltb (v .id) (length (ctx .offsets))) _ h)
+
+pub integral : (n : ℕ) (v : VarId) → isIntegerVar n v ≡ true → isFloat (v .ty) ≡ false
+unfolding isIntegerVar isFloat
+integral n v h = no-float (v .ty .code) (isScalar (v .ty)) (second (isScalar (v .ty)) _ (second (ltb (v .id) n) _ h))
+
+-- ---- operands
+
+pub placed : (ctx : Context) (x : IrOp) → isIntegerOperand (length (ctx .offsets)) x ≡ true → convertOperand ctx x ≡ ok (operandOf ctx x)
+unfolding isIntegerOperand convertOperand operandOf
+placed ctx (IrOp.Var v) h = slotted ctx v h
+placed ctx (IrOp.Int n short unsigned) h = refl
+placed ctx (IrOp.Float k) h = apart (sym h)
+placed ctx (IrOp.Bool b) h = refl
+placed ctx (IrOp.Address v) h = apart (sym h)
+placed ctx (IrOp.DataAddress k) h = apart (sym h)
+placed ctx IrOp.Null h = refl
+
+value-loaded : (ctx : Context) (reg : Register) (x : IrOp) (size : Size) → isIntegerOperand (length (ctx .offsets)) x ≡ true → loadValue ctx reg x size ≡ ok (loadOf ctx reg x size)
+unfolding loadValue loadOf
+value-loaded ctx reg x size h = rw (placed ctx x h)
+
+no-string : {A : Type 0} (n k : ℕ) → isIntegerOperand n (IrOp.DataAddress k) ≡ true → A
+unfolding isIntegerOperand
+no-string n k h = apart (sym h)
+
+pub loaded : (ctx : Context) (reg : Register) (x : IrOp) (size : Size) → isIntegerOperand (length (ctx .offsets)) x ≡ true → loadOperand ctx reg x size ≡ ok (loadOf ctx reg x size)
+unfolding loadOperand
+loaded ctx reg (IrOp.Var v) size h = value-loaded ctx reg (IrOp.Var v) size h
+loaded ctx reg (IrOp.Int n short unsigned) size h = value-loaded ctx reg (IrOp.Int n short unsigned) size h
+loaded ctx reg (IrOp.Float k) size h = value-loaded ctx reg (IrOp.Float k) size h
+loaded ctx reg (IrOp.Bool b) size h = value-loaded ctx reg (IrOp.Bool b) size h
+loaded ctx reg (IrOp.Address v) size h = value-loaded ctx reg (IrOp.Address v) size h
+loaded ctx reg (IrOp.DataAddress k) size h = no-string _ k h
+loaded ctx reg IrOp.Null size h = value-loaded ctx reg IrOp.Null size h
+
+-- the kind of an integer operand, and the size of a move of its value
+abbrev kindOf : IrOp → Kind
+kindOf (IrOp.Var v) = kind (elementWidth (v .ty .code)) false (isUnsigned (v .ty))
+kindOf (IrOp.Int n short unsigned) = kind (cond short 4 8) false unsigned
+kindOf (IrOp.Float k) = kind 8 false true
+kindOf (IrOp.Bool b) = kind 1 false true
+kindOf (IrOp.Address v) = kind 8 false true
+kindOf (IrOp.DataAddress k) = kind 8 false true
+kindOf IrOp.Null = kind 8 false true
+
+abbrev sizeOf : IrOp → Size
+sizeOf (IrOp.Var v) = elfSize (v .ty)
+sizeOf (IrOp.Int n short unsigned) = cond short Size.U32 Size.U64
+sizeOf (IrOp.Float k) = Size.U64
+sizeOf (IrOp.Bool b) = Size.U8
+sizeOf (IrOp.Address v) = Size.U64
+sizeOf (IrOp.DataAddress k) = Size.U64
+sizeOf IrOp.Null = Size.U64
+
+kind-known : (ctx : Context) (x : IrOp) → isIntegerOperand (length (ctx .offsets)) x ≡ true → operandKind ctx x ≡ ok (kindOf x)
+unfolding isIntegerOperand operandKind typeSize bytes isIntegerVar
+kind-known ctx (IrOp.Var v) h =
+    let t = second (ltb (v .id) (length (ctx .offsets))) _ h in
+    rw (has-width (v .ty .code) (second (isScalar (v .ty)) _ t), first (isScalar (v .ty)) _ t, integral _ v h)
+kind-known ctx (IrOp.Int n short unsigned) h = refl
+kind-known ctx (IrOp.Float k) h = apart (sym h)
+kind-known ctx (IrOp.Bool b) h = refl
+kind-known ctx (IrOp.Address v) h = apart (sym h)
+kind-known ctx (IrOp.DataAddress k) h = apart (sym h)
+kind-known ctx IrOp.Null h = refl
+
+size-known : (n : ℕ) (x : IrOp) → isIntegerOperand n x ≡ true → sizeFrom (kindOf x .size) ≡ ok (sizeOf x)
+unfolding isIntegerOperand isIntegerVar elfSize sizeFrom
+size-known n (IrOp.Var v) h =
+    let t = second (ltb (v .id) n) _ h in
+    rw (first (isScalar (v .ty)) _ t) (size-of-code (v .ty .code) (second (isScalar (v .ty)) _ t))
+size-known n (IrOp.Int v true unsigned) h = refl
+size-known n (IrOp.Int v false unsigned) h = refl
+size-known n (IrOp.Float k) h = apart (sym h)
+size-known n (IrOp.Bool b) h = refl
+size-known n (IrOp.Address v) h = apart (sym h)
+size-known n (IrOp.DataAddress k) h = apart (sym h)
+size-known n IrOp.Null h = refl
+
+-- no float
+kind-integral : (n : ℕ) (x : IrOp) → kindOf x .float ≡ false
+kind-integral n (IrOp.Var v) = refl
+kind-integral n (IrOp.Int v short unsigned) = refl
+kind-integral n (IrOp.Float k) = refl
+kind-integral n (IrOp.Bool b) = refl
+kind-integral n (IrOp.Address v) = refl
+kind-integral n (IrOp.DataAddress k) = refl
+kind-integral n IrOp.Null = refl
+
+-- ---- the lists' lengths
+
+abbrev Var : Context → VarId → Type 0
+Var ctx v = isIntegerVar (length (ctx .offsets)) v ≡ true
+
+abbrev Op : Context → IrOp → Type 0
+Op ctx x = isIntegerOperand (length (ctx .offsets)) x ≡ true
+
+copy-counted : (ctx : Context) (d : VarId) (x : IrOp) → Var ctx d → Op ctx x → counted (generateCopy ctx d x) ≡ ok 2
+unfolding generateCopy
+copy-counted ctx d x hd hx = rw (slotted ctx d hd, sized _ d hd, loaded ctx RAX x (elfSize (d .ty)) hx)
+
+unary-counted : (ctx : Context) (d : VarId) (op : IrUnary) (x : IrOp) → Var ctx d → Op ctx x → counted (generateUnary ctx d op x) ≡ ok 3
+unfolding generateUnary
+unary-counted ctx d IrUnary.Neg x hd hx = rw (sized _ d hd, loaded ctx RAX x (elfSize (d .ty)) hx, slotted ctx d hd, integral _ d hd)
+unary-counted ctx d IrUnary.BitNot x hd hx = rw (sized _ d hd, loaded ctx RAX x (elfSize (d .ty)) hx, slotted ctx d hd)
+unary-counted ctx d IrUnary.Not x hd hx = rw (sized _ d hd, loaded ctx RAX x (elfSize (d .ty)) hx, slotted ctx d hd)
+
+simple-counted : (ctx : Context) (d : VarId) (l r : IrOp) (op : BinOp) → Var ctx d → Op ctx l → Op ctx r → counted (simpleOperation ctx d l r op) ≡ ok 3
+unfolding simpleOperation
+simple-counted ctx d l r op hd hl hr = rw (sized _ d hd, loaded ctx RAX l (elfSize (d .ty)) hl, placed ctx r hr, slotted ctx d hd)
+
+two-counted : (ctx : Context) (d : VarId) (l r : IrOp) (f : Size → List Instruction) (result : Register) (n : ℕ) → Var ctx d → Op ctx l → Op ctx r
+    → ((z : Size) → length (f z ++ move (slotOf ctx d) (Operand.Reg result) z ∷ []) ≡ n) → counted (twoLoads ctx d l r f result) ≡ ok (suc (suc n))
+unfolding twoLoads
+two-counted ctx d l r f result n hd hl hr e =
+    rw (sized _ d hd, loaded ctx RAX l (elfSize (d .ty)) hl, loaded ctx RCX r (elfSize (d .ty)) hr, slotted ctx d hd) (ap (λ k. ok (suc (suc k))) (e (elfSize (d .ty))))
+
+compared-counted : (ctx : Context) (d : VarId) (l r : IrOp) (size : Size) (cc : ConditionCode) → Var ctx d → Op ctx l → Op ctx r
+    → counted (compared ctx d RAX l RCX r size BinOp.Cmp cc []) ≡ ok 5
+unfolding compared
+compared-counted ctx d l r size cc hd hl hr = rw (loaded ctx RAX l size hl, loaded ctx RCX r size hr, slotted ctx d hd, sized _ d hd)
+
+comparison-counted : (ctx : Context) (d : VarId) (l r : IrOp) (cc : ConditionCode) → Var ctx d → Op ctx l → Op ctx r → counted (comparison ctx d l r cc) ≡ ok 5
+unfolding comparison
+comparison-counted ctx d l r cc hd hl hr =
+    rw (kind-known ctx l hl, size-known _ l hl, kind-integral 0 l) (compared-counted ctx d l r (sizeOf l) _ hd hl hr)
+
+divided : (ctx : Context) (d : VarId) (l r : IrOp) (result : Register) → Var ctx d → Op ctx l → Op ctx r → counted (division ctx d l r result) ≡ ok 5
+unfolding division
+divided ctx d l r result hd hl hr = two-counted ctx d l r (dividing (isUnsigned (d .ty))) result 3 hd hl hr (λ z. long (isUnsigned (d .ty)) z)
+  where
+    long : (u : Bool) (z : Size) → length (dividing u z ++ move (slotOf ctx d) (Operand.Reg result) z ∷ []) ≡ 3
+    long true z = refl
+    long false z = refl
+
+binary-counted : (ctx : Context) (d : VarId) (l r : IrOp) (op : ℕ) → Var ctx d → Op ctx l → Op ctx r → (binaryCount op ≡ 0 → ⊥)
+    → counted (integerBinary ctx d (binaryOp op) l r) ≡ ok (binaryCount op)
+unfolding binaryOp binaryCount shift multiplication
+binary-counted ctx d l r zero hd hl hr h = absurd (h refl)
+binary-counted ctx d l r (suc zero) hd hl hr h = absurd (h refl)
+binary-counted ctx d l r (suc (suc zero)) hd hl hr h = simple-counted ctx d l r BinOp.Or hd hl hr
+binary-counted ctx d l r (suc (suc (suc zero))) hd hl hr h = simple-counted ctx d l r BinOp.Xor hd hl hr
+binary-counted ctx d l r (suc (suc (suc (suc zero)))) hd hl hr h = simple-counted ctx d l r BinOp.And hd hl hr
+binary-counted ctx d l r (suc (suc (suc (suc (suc zero))))) hd hl hr h = comparison-counted ctx d l r ConditionCode.E hd hl hr
+binary-counted ctx d l r (suc (suc (suc (suc (suc (suc zero)))))) hd hl hr h = comparison-counted ctx d l r ConditionCode.NE hd hl hr
+binary-counted ctx d l r (suc (suc (suc (suc (suc (suc (suc zero))))))) hd hl hr h = comparison-counted ctx d l r ConditionCode.L hd hl hr
+binary-counted ctx d l r (suc (suc (suc (suc (suc (suc (suc (suc zero)))))))) hd hl hr h = comparison-counted ctx d l r ConditionCode.LE hd hl hr
+binary-counted ctx d l r (suc (suc (suc (suc (suc (suc (suc (suc (suc zero))))))))) hd hl hr h = comparison-counted ctx d l r ConditionCode.G hd hl hr
+binary-counted ctx d l r (suc (suc (suc (suc (suc (suc (suc (suc (suc (suc zero)))))))))) hd hl hr h = comparison-counted ctx d l r ConditionCode.GE hd hl hr
+binary-counted ctx d l r (suc (suc (suc (suc (suc (suc (suc (suc (suc (suc (suc zero))))))))))) hd hl hr h = two-counted ctx d l r _ RAX 2 hd hl hr (λ z. refl)
+binary-counted ctx d l r (suc (suc (suc (suc (suc (suc (suc (suc (suc (suc (suc (suc zero)))))))))))) hd hl hr h = two-counted ctx d l r _ RAX 2 hd hl hr (λ z. refl)
+binary-counted ctx d l r (suc (suc (suc (suc (suc (suc (suc (suc (suc (suc (suc (suc (suc zero))))))))))))) hd hl hr h = simple-counted ctx d l r BinOp.Add hd hl hr
+binary-counted ctx d l r (suc (suc (suc (suc (suc (suc (suc (suc (suc (suc (suc (suc (suc (suc zero)))))))))))))) hd hl hr h = simple-counted ctx d l r BinOp.Sub hd hl hr
+binary-counted ctx d l r (suc (suc (suc (suc (suc (suc (suc (suc (suc (suc (suc (suc (suc (suc (suc zero))))))))))))))) hd hl hr h = two-counted ctx d l r _ RAX 2 hd hl hr (λ z. refl)
+binary-counted ctx d l r (suc (suc (suc (suc (suc (suc (suc (suc (suc (suc (suc (suc (suc (suc (suc (suc zero)))))))))))))))) hd hl hr h = divided ctx d l r RAX hd hl hr
+binary-counted ctx d l r (suc (suc (suc (suc (suc (suc (suc (suc (suc (suc (suc (suc (suc (suc (suc (suc (suc zero))))))))))))))))) hd hl hr h = divided ctx d l r RDX hd hl hr
+binary-counted ctx d l r (suc (suc (suc (suc (suc (suc (suc (suc (suc (suc (suc (suc (suc (suc (suc (suc (suc (suc n)))))))))))))))))) hd hl hr h = divided ctx d l r RDX hd hl hr
+
+-- where the count is not 0 its condition holds
+holds : (b : Bool) (n : ℕ) → (cond b n 0 ≡ 0 → ⊥) → b ≡ true
+holds true n h = refl
+holds false n h = absurd (h refl)
+
+nonzero : (b : Bool) (n : ℕ) → (cond b n 0 ≡ 0 → ⊥) → n ≡ 0 → ⊥
+nonzero true n h = h
+nonzero false n h = absurd (h refl)
+
+-- a count that is not 0 is the number of records
+pub quick-counted : (ctx : Context) (labels : ℕ) (ret : IrType) (i : Instr) (args : List IrOp) → (quickCount (length (ctx .offsets)) labels i ≡ 0 → ⊥)
+    → counted (generateInstr ctx labels ret i args) ≡ ok (quickCount (length (ctx .offsets)) labels i)
+unfolding quickCount generateInstr generateBinary generateLabel generateJump generateJmpIfNot generateReturn labelAt
+quick-counted ctx labels ret (Instr.Copy d x) args h =
+    let e = holds (isIntegerVar (length (ctx .offsets)) d && isIntegerOperand (length (ctx .offsets)) x) 2 h in
+    rw (e) (copy-counted ctx d x (first _ _ e) (second (isIntegerVar (length (ctx .offsets)) d) _ e))
+quick-counted ctx labels ret (Instr.Unary d op x) args h =
+    let e = holds (isIntegerVar (length (ctx .offsets)) d && isIntegerOperand (length (ctx .offsets)) x) 3 h in
+    rw (e) (unary-counted ctx d op x (first _ _ e) (second (isIntegerVar (length (ctx .offsets)) d) _ e))
+quick-counted ctx labels ret (Instr.Binary d op l r) args h =
+    let e = holds (isIntegerVar (length (ctx .offsets)) d && (isIntegerOperand (length (ctx .offsets)) l && isIntegerOperand (length (ctx .offsets)) r)) (binaryCount op) h in
+    let f = second (isIntegerVar (length (ctx .offsets)) d) _ e in
+    rw (e, integral _ d (first _ _ e))
+    (binary-counted ctx d l r op (first _ _ e) (first _ _ f) (second (isIntegerOperand (length (ctx .offsets)) l) _ f) (nonzero (isIntegerVar (length (ctx .offsets)) d && (isIntegerOperand (length (ctx .offsets)) l && isIntegerOperand (length (ctx .offsets)) r)) (binaryCount op) h))
+quick-counted ctx labels ret (Instr.Cast d x) args h = absurd (h refl)
+quick-counted ctx labels ret (Instr.Zero d) args h = absurd (h refl)
+quick-counted ctx labels ret (Instr.Call d symbol count) args h = absurd (h refl)
+quick-counted ctx labels ret (Instr.Label l) args h = rw (holds (ltb l labels) 1 h)
+quick-counted ctx labels ret (Instr.Jump l) args h = rw (holds (ltb l labels) 1 h)
+quick-counted ctx labels ret (Instr.JumpIfNot x l) args h =
+    let e = holds (isIntegerOperand (length (ctx .offsets)) x && ltb l labels) 3 h in
+    rw (e, loaded ctx RAX x Size.U8 (first _ _ e), second (isIntegerOperand (length (ctx .offsets)) x) _ e)
+quick-counted ctx labels ret (Instr.Return x) args h =
+    let e = holds (isIntegerOperand (length (ctx .offsets)) x) 4 h in
+    rw (e, loaded ctx (cond (isFloat ret) (xmm 0) RAX) x Size.NoSize e)
+quick-counted ctx labels ret Instr.Comment args h = absurd (h refl)

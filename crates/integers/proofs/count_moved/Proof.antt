@@ -1,0 +1,27 @@
+use borrow.Author.Needs.{needs}
+use Rattle.integers.proofs.count_moved.Statement.{statement}
+use Rattle.integers.proofs.count_moved.Tie as tie
+
+add-is-integer-var : tie.Need-add-is-integer-var
+add-is-integer-var c = search needs
+
+is-integer-var-requires : tie.Need-is-integer-var-requires
+is-integer-var-requires c κs = search needs
+
+add-is-integer-operand : tie.Need-add-is-integer-operand
+add-is-integer-operand c = search needs
+
+is-integer-operand-requires : tie.Need-is-integer-operand-requires
+is-integer-operand-requires c κs = search needs
+
+both-requires : tie.Need-both-requires
+both-requires c κs = search needs
+
+count-if-requires : tie.Need-count-if-requires
+count-if-requires c κs = search needs
+
+returns : tie.Need-returns
+returns c = simp (c .count-if .ensures, c .before .both .ensures, c .before .before .is-integer-operand .ensures, c .before .before .before .is-integer-var .ensures)
+
+pub count-moved-spec : {M : Type 1} → statement M
+count-moved-spec = tie.close (tie.spec add-is-integer-var is-integer-var-requires add-is-integer-operand is-integer-operand-requires both-requires count-if-requires returns)

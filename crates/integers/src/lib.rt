@@ -1,0 +1,130 @@
+// The short way for instructions on integer variables and constants, which are most of a rule: the number of their records, found on the sheet's cells
+// with no record made. Any other instruction is left to the list makers, and so is one that they refuse.
+use cells::cell_at;
+ghost use mathlib.Core.Path.{_≡_};
+ghost use mathlib.Core.Bool.{cond, _&&_};
+ghost use Prim.Native.Nat.{_+_, _≤_};
+ghost use lib.Dec.{ltb};
+ghost use lib.ListN.{length};
+ghost use Rattle.cells.specs.Cells.{cells};
+ghost use Rattle.ir.specs.Function.{varAt, operandAt, binaryAt, jumpIfNotAt, instrAt};
+ghost use Rattle.integers.specs.Integers.{isInteger, isIntegerVar, isIntegerOperand, binaryCount, quickCount};
+
+// Integers, Bool, Char, Byte and Address.
+fn is_integer(code: u64) -> bool
+    ensures { λ r. ⌜ r ≡ isInteger code ⌝ }
+{
+    match code {
+        1 => true,
+        2 => true,
+        3 => true,
+        4 => true,
+        7 => true,
+        8 => true,
+        9 => true,
+        10 => true,
+        _ => false,
+    }
+}
+
+// Whether the variable at cell `k` is an integer, no array, and has a slot.
+fn is_integer_var(offsets: &[u64], s: &[u8], k: usize) -> bool
+    requires { ⌜ k + 3 ≤ cells (now s) ⌝ }
+    ensures { λ r. ⌜ r ≡ isIntegerVar (length (now (offsets .entry))) (varAt (now (s .entry)) k) ⌝ }
+{
+    if cell_at(s, k) < offsets.len() as u64 {
+        if cell_at(s, k + 2) == 0xffff_ffff_ffff_ffff {
+            return is_integer(cell_at(s, k + 1));
+        }
+    }
+    false
+}
+
+// Whether the operand at cell `k` is such a variable, or a constant that is no float and no address.
+fn is_integer_operand(offsets: &[u64], s: &[u8], k: usize) -> bool
+    requires { ⌜ k + 4 ≤ cells (now s) ⌝ }
+    ensures { λ r. ⌜ r ≡ isIntegerOperand (length (now (offsets .entry))) (operandAt (now (s .entry)) k) ⌝ }
+{
+    match cell_at(s, k) {
+        0 => is_integer_var(offsets, s, k + 1),
+        2 => false,
+        4 => false,
+        5 => false,
+        _ => true,
+    }
+}
+
+// The records of a binary operation, by its number.
+fn binary_count(op: u64) -> u64
+    ensures { λ r. ⌜ r ≡ binaryCount op ⌝ }
+{
+    match op {
+        0 => 0,
+        1 => 0,
+        2 => 3,
+        3 => 3,
+        4 => 3,
+        11 => 4,
+        12 => 4,
+        13 => 3,
+        14 => 3,
+        15 => 4,
+        _ => 5,
+    }
+}
+
+fn count_if(holds: bool, n: u64) -> u64
+    ensures { λ r. ⌜ r ≡ cond holds n 0 ⌝ }
+{
+    if holds { n } else { 0 }
+}
+
+fn both(a: bool, b: bool) -> bool
+    ensures { λ r. ⌜ r ≡ (a && b) ⌝ }
+{
+    if a { b } else { false }
+}
+
+fn count_binary(offsets: &[u64], s: &[u8], k: usize, labels: u64) -> u64
+    requires { ⌜ k + 13 ≤ cells (now s) ⌝ }
+    ensures { λ r. ⌜ r ≡ quickCount (length (now (offsets .entry))) labels (binaryAt (now (s .entry)) k) ⌝ }
+{
+    let dest = is_integer_var(offsets, s, k + 2);
+    let left = is_integer_operand(offsets, s, k + 5);
+    let right = is_integer_operand(offsets, s, k + 9);
+    count_if(both(dest, both(left, right)), binary_count(cell_at(s, k + 1)))
+}
+
+fn count_branch(offsets: &[u64], s: &[u8], k: usize, labels: u64) -> u64
+    requires { ⌜ k + 13 ≤ cells (now s) ⌝ }
+    ensures { λ r. ⌜ r ≡ quickCount (length (now (offsets .entry))) labels (jumpIfNotAt (now (s .entry)) k) ⌝ }
+{
+    let condition = is_integer_operand(offsets, s, k + 5);
+    count_if(both(condition, cell_at(s, k + 1) < labels), 3)
+}
+
+// A copy or a unary operation, of n records.
+fn count_moved(offsets: &[u64], s: &[u8], k: usize, n: u64) -> u64
+    requires { ⌜ k + 13 ≤ cells (now s) ⌝ }
+    ensures { λ r. ⌜ r ≡ cond (isIntegerVar (length (now (offsets .entry))) (varAt (now (s .entry)) (k + 2)) && isIntegerOperand (length (now (offsets .entry))) (operandAt (now (s .entry)) (k + 5))) n 0 ⌝ }
+{
+    let dest = is_integer_var(offsets, s, k + 2);
+    count_if(both(dest, is_integer_operand(offsets, s, k + 5)), n)
+}
+
+// The number of records of the instruction at cell `k`; 0 where it is left to its list maker.
+pub fn count_instr(offsets: &[u64], s: &[u8], k: usize, labels: u64) -> u64
+    requires { ⌜ k + 13 ≤ cells (now s) ⌝ }
+    ensures { λ r. ⌜ r ≡ quickCount (length (now (offsets .entry))) labels (instrAt (now (s .entry)) k) ⌝ }
+{
+    match cell_at(s, k) {
+        0 => count_moved(offsets, s, k, 2),
+        1 => count_moved(offsets, s, k, 3),
+        2 => count_binary(offsets, s, k, labels),
+        6 => count_if(cell_at(s, k + 1) < labels, 1),
+        7 => count_if(cell_at(s, k + 1) < labels, 1),
+        8 => count_branch(offsets, s, k, labels),
+        9 => count_if(is_integer_operand(offsets, s, k + 5), 4),
+        _ => 0,
+    }
+}
