@@ -1,2 +1,4 @@
 pub mod Rest
 pub mod Quick
+pub mod Forms
+pub mod Left

@@ -20,13 +20,13 @@ use Rattle.x86.specs.declared.enums.ConditionCode.{ConditionCode}
 use Rattle.x86.specs.declared.enums.Instruction.{Instruction}
 use Rattle.x86.specs.Registers.{RAX, RCX, RDX, xmm}
 use Rattle.codegen.specs.Context.{Context, displacement, labelAt}
-use Rattle.codegen.specs.Utils.{sizeFrom, varSize, convertVar, convertOperand, loadFrom, loadValue, loadOperand}
+use Rattle.codegen.specs.Utils.{sizeFrom, varSize, convertVar, convertOperand, sizeOr, loadFrom, loadValue, loadOperand}
 use Rattle.codegen.specs.Instructions.{move, kind, Kind, operandKind, generateCopy, generateReturn, generateLabel, generateJump, generateJmpIfNot}
 use Rattle.codegen.specs.Arithmetic.{simpleOperation, twoLoads, dividing, division, multiplication, shift, compared, comparison, generateBinary, integerBinary, generateUnary}
 use Rattle.codegen.specs.Generation.{generateInstr}
 use Rattle.utils.specs.Answers.{counted}
 use Rattle.layout.proofs.Passed.{apart}
-use Rattle.integers.specs.Integers.{isInteger, isIntegerVar, isIntegerOperand, binaryCount, quickCount, slotOf, operandOf, loadOf}
+use Rattle.integers.specs.Integers.{isInteger, isIntegerVar, isIntegerOperand, binaryCount, quickCount, slotOf, operandOf}
 
 -- both of two tests
 first : (a b : Bool) → (a && b) ≡ true → a ≡ true
@@ -97,7 +97,7 @@ sized n v h =
     let c = second (isScalar (v .ty)) _ t in
     rw (has-width (v .ty .code) c, first (isScalar (v .ty)) _ t) (size-of-code (v .ty .code) c)
 
-pub slotted : (ctx : Context) (v : VarId) → isIntegerVar (length (ctx .offsets)) v ≡ true → convertVar ctx v ≡ ok (slotOf ctx v)
+pub slotted : (ctx : Context) (v : VarId) → isIntegerVar (length (ctx .offsets)) v ≡ true → convertVar ctx v ≡ ok (slotOf (ctx .offsets) v)
 unfolding isIntegerVar convertVar displacement slotOf
 slotted ctx v h = rw (first (ltb (v .id) (length (ctx .offsets))) _ h)
 
@@ -107,7 +107,7 @@ integral n v h = no-float (v .ty .code) (isScalar (v .ty)) (second (isScalar (v 
 
 -- ---- operands
 
-pub placed : (ctx : Context) (x : IrOp) → isIntegerOperand (length (ctx .offsets)) x ≡ true → convertOperand ctx x ≡ ok (operandOf ctx x)
+pub placed : (ctx : Context) (x : IrOp) → isIntegerOperand (length (ctx .offsets)) x ≡ true → convertOperand ctx x ≡ ok (operandOf (ctx .offsets) x)
 unfolding isIntegerOperand convertOperand operandOf
 placed ctx (IrOp.Var v) h = slotted ctx v h
 placed ctx (IrOp.Int n short unsigned) h = refl
@@ -117,15 +117,15 @@ placed ctx (IrOp.Address v) h = apart (sym h)
 placed ctx (IrOp.DataAddress k) h = apart (sym h)
 placed ctx IrOp.Null h = refl
 
-value-loaded : (ctx : Context) (reg : Register) (x : IrOp) (size : Size) → isIntegerOperand (length (ctx .offsets)) x ≡ true → loadValue ctx reg x size ≡ ok (loadOf ctx reg x size)
-unfolding loadValue loadOf
+value-loaded : (ctx : Context) (reg : Register) (x : IrOp) (size : Size) → isIntegerOperand (length (ctx .offsets)) x ≡ true → loadValue ctx reg x size ≡ ok (loadFrom reg (operandOf (ctx .offsets) x) (sizeOr size (operandSize x)))
+unfolding loadValue
 value-loaded ctx reg x size h = rw (placed ctx x h)
 
 no-string : {A : Type 0} (n k : ℕ) → isIntegerOperand n (IrOp.DataAddress k) ≡ true → A
 unfolding isIntegerOperand
 no-string n k h = apart (sym h)
 
-pub loaded : (ctx : Context) (reg : Register) (x : IrOp) (size : Size) → isIntegerOperand (length (ctx .offsets)) x ≡ true → loadOperand ctx reg x size ≡ ok (loadOf ctx reg x size)
+pub loaded : (ctx : Context) (reg : Register) (x : IrOp) (size : Size) → isIntegerOperand (length (ctx .offsets)) x ≡ true → loadOperand ctx reg x size ≡ ok (loadFrom reg (operandOf (ctx .offsets) x) (sizeOr size (operandSize x)))
 unfolding loadOperand
 loaded ctx reg (IrOp.Var v) size h = value-loaded ctx reg (IrOp.Var v) size h
 loaded ctx reg (IrOp.Int n short unsigned) size h = value-loaded ctx reg (IrOp.Int n short unsigned) size h
@@ -212,7 +212,7 @@ unfolding simpleOperation
 simple-counted ctx d l r op hd hl hr = rw (sized _ d hd, loaded ctx RAX l (elfSize (d .ty)) hl, placed ctx r hr, slotted ctx d hd)
 
 two-counted : (ctx : Context) (d : VarId) (l r : IrOp) (f : Size → List Instruction) (result : Register) (n : ℕ) → Var ctx d → Op ctx l → Op ctx r
-    → ((z : Size) → length (f z ++ move (slotOf ctx d) (Operand.Reg result) z ∷ []) ≡ n) → counted (twoLoads ctx d l r f result) ≡ ok (suc (suc n))
+    → ((z : Size) → length (f z ++ move (slotOf (ctx .offsets) d) (Operand.Reg result) z ∷ []) ≡ n) → counted (twoLoads ctx d l r f result) ≡ ok (suc (suc n))
 unfolding twoLoads
 two-counted ctx d l r f result n hd hl hr e =
     rw (sized _ d hd, loaded ctx RAX l (elfSize (d .ty)) hl, loaded ctx RCX r (elfSize (d .ty)) hr, slotted ctx d hd) (ap (λ k. ok (suc (suc k))) (e (elfSize (d .ty))))
@@ -231,7 +231,7 @@ divided : (ctx : Context) (d : VarId) (l r : IrOp) (result : Register) → Var c
 unfolding division
 divided ctx d l r result hd hl hr = two-counted ctx d l r (dividing (isUnsigned (d .ty))) result 3 hd hl hr (λ z. long (isUnsigned (d .ty)) z)
   where
-    long : (u : Bool) (z : Size) → length (dividing u z ++ move (slotOf ctx d) (Operand.Reg result) z ∷ []) ≡ 3
+    long : (u : Bool) (z : Size) → length (dividing u z ++ move (slotOf (ctx .offsets) d) (Operand.Reg result) z ∷ []) ≡ 3
     long true z = refl
     long false z = refl
 

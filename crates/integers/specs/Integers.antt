@@ -1,21 +1,26 @@
--- Instructions on integer variables and constants, which are never refused, and the number of their records.
+-- Instructions on integer variables and constants, which are never refused: the number of their records, and the records.
 use Prim.Native.Nat.{ℕ}
-use mathlib.Core.List.{[], _∷_}
+use mathlib.Core.List.{List, [], _∷_}
 use mathlib.Core.Bool.{Bool, true, false, cond, _&&_}
-use lib.Dec.{ltb}
-use lib.ListN.{getD}
+use lib.Dec.{eqb, ltb}
+use lib.ListN.{getD, length}
+use Rattle.cells.specs.Cells.{minus}
 use Rattle.ir.specs.declared.VarId.{VarId}
 use Rattle.ir.specs.declared.Operand.{Operand as IrOp}
 use Rattle.ir.specs.declared.Instr.{Instr}
-use Rattle.ir.specs.Types.{isScalar, operandSize}
-use Rattle.cells.specs.Cells.{minus}
+use Rattle.ir.specs.Types.{isScalar, isUnsigned, elfSize}
 use Rattle.x86.specs.declared.register.Register.{Register}
 use Rattle.x86.specs.declared.enums.Size.{Size}
 use Rattle.x86.specs.declared.enums.Operand.{Operand}
+use Rattle.x86.specs.declared.enums.BinOp.{BinOp}
+use Rattle.x86.specs.declared.enums.CtrlOp.{CtrlOp}
+use Rattle.x86.specs.declared.enums.ConditionCode.{ConditionCode}
 use Rattle.x86.specs.declared.enums.Instruction.{Instruction}
-use Rattle.x86.specs.Registers.{rbpPlus}
-use Rattle.codegen.specs.Context.{Context}
-use Rattle.codegen.specs.Utils.{sizeOr, loadFrom}
+use Rattle.x86.specs.Registers.{rbpPlus, RAX, RCX}
+use Rattle.x86.specs.Records.{Record, cellsRecord, sizeCode}
+use Rattle.codegen.specs.Utils.{isOneByte, loadFrom}
+use Rattle.codegen.specs.Instructions.{move}
+use Rattle.codegen.specs.Arithmetic.{unsignedCode}
 
 -- the codes of integers, Bool, Char, Byte and Address (01, "Sheet and tables")
 unfoldable pub isInteger : ℕ → Bool
@@ -53,21 +58,97 @@ quickCount n labels (Instr.JumpIfNot condition target) = cond (isIntegerOperand 
 quickCount n labels (Instr.Return op) = cond (isIntegerOperand n op) 4 0
 quickCount n labels Instr.Comment = 0
 
--- ---- what their look-ups find, in a context
+-- ---- their records, with the variables' offsets
 
--- a variable's slot, and the size of a move that touches it
-unfoldable pub slotOf : Context → VarId → Operand
-slotOf ctx v = rbpPlus (minus (getD (ctx .offsets) (v .id) 0))
+-- a variable's slot
+unfoldable pub slotOf : List ℕ → VarId → Operand
+slotOf offsets v = rbpPlus (minus (getD offsets (v .id) 0))
 
-unfoldable pub operandOf : Context → IrOp → Operand
-operandOf ctx (IrOp.Var v) = slotOf ctx v
-operandOf ctx (IrOp.Int v short unsigned) = Operand.Imm v
-operandOf ctx (IrOp.Float k) = Operand.NoOperand
-operandOf ctx (IrOp.Bool b) = Operand.Imm (cond b 1 0)
-operandOf ctx (IrOp.Address v) = Operand.NoOperand
-operandOf ctx (IrOp.DataAddress k) = Operand.NoOperand
-operandOf ctx IrOp.Null = Operand.Imm 0
+unfoldable pub operandOf : List ℕ → IrOp → Operand
+operandOf offsets (IrOp.Var v) = slotOf offsets v
+operandOf offsets (IrOp.Int v short unsigned) = Operand.Imm v
+operandOf offsets (IrOp.Float k) = Operand.NoOperand
+operandOf offsets (IrOp.Bool b) = Operand.Imm (cond b 1 0)
+operandOf offsets (IrOp.Address v) = Operand.NoOperand
+operandOf offsets (IrOp.DataAddress k) = Operand.NoOperand
+operandOf offsets IrOp.Null = Operand.Imm 0
 
--- the record that brings an operand into a register
-unfoldable pub loadOf : Context → Register → IrOp → Size → Instruction
-loadOf ctx reg op size = loadFrom reg (operandOf ctx op) (sizeOr size (operandSize op))
+-- the size of a move of an operand's value, where it is no float
+unfoldable pub valueSize : IrOp → Size
+valueSize (IrOp.Var v) = elfSize (v .ty)
+valueSize (IrOp.Int v short unsigned) = cond short Size.U32 Size.U64
+valueSize (IrOp.Float k) = Size.U64
+valueSize (IrOp.Bool b) = Size.U8
+valueSize (IrOp.Address v) = Size.U64
+valueSize (IrOp.DataAddress k) = Size.U64
+valueSize IrOp.Null = Size.U64
+
+-- whether it is compared as an unsigned one
+unfoldable pub valueUnsigned : IrOp → Bool
+valueUnsigned (IrOp.Var v) = isUnsigned (v .ty)
+valueUnsigned (IrOp.Int v short unsigned) = unsigned
+valueUnsigned (IrOp.Float k) = true
+valueUnsigned (IrOp.Bool b) = true
+valueUnsigned (IrOp.Address v) = true
+valueUnsigned (IrOp.DataAddress k) = true
+valueUnsigned IrOp.Null = true
+
+abbrev pub load : List ℕ → Register → IrOp → Size → Instruction
+load offsets reg x size = loadFrom reg (operandOf offsets x) size
+
+abbrev pub store : List ℕ → VarId → Register → Instruction
+store offsets d reg = move (slotOf offsets d) (Operand.Reg reg) (elfSize (d .ty))
+
+unfoldable pub simpleList : List ℕ → VarId → IrOp → IrOp → BinOp → List Instruction
+simpleList offsets d l r op =
+    load offsets RAX l (elfSize (d .ty)) ∷ Instruction.Binary op (Operand.Reg RAX) (operandOf offsets r) (elfSize (d .ty)) ∷ store offsets d RAX ∷ []
+
+-- a comparison of integers: its flag is a signed or an unsigned one by left's type
+unfoldable pub comparedList : List ℕ → VarId → IrOp → IrOp → ConditionCode → List Instruction
+comparedList offsets d l r cc =
+    load offsets RAX l (valueSize l) ∷ load offsets RCX r (valueSize l)
+    ∷ Instruction.Binary BinOp.Cmp (Operand.Reg RAX) (Operand.Reg RCX) (valueSize l)
+    ∷ Instruction.SetCC (cond (valueUnsigned l) (unsignedCode cc) cc) (Operand.Reg RAX) ∷ store offsets d RAX ∷ []
+
+unfoldable pub copyList : List ℕ → VarId → IrOp → List Instruction
+copyList offsets d x = load offsets RAX x (elfSize (d .ty)) ∷ store offsets d RAX ∷ []
+
+unfoldable pub branchList : List ℕ → IrOp → ℕ → List Instruction
+branchList offsets x l =
+    load offsets RAX x Size.U8 ∷ Instruction.Binary BinOp.Cmp (Operand.Reg RAX) (Operand.Imm 0) Size.U8
+    ∷ Instruction.Ctrl (CtrlOp.JmpCC ConditionCode.E) (Operand.Label l) ∷ []
+
+-- by the operation's number; none for those that are left to their list makers
+unfoldable pub binaryList : List ℕ → VarId → ℕ → IrOp → IrOp → List Instruction
+binaryList offsets d op l r =
+    getD
+    ([] ∷ [] ∷ simpleList offsets d l r BinOp.Or ∷ simpleList offsets d l r BinOp.Xor ∷ simpleList offsets d l r BinOp.And
+    ∷ comparedList offsets d l r ConditionCode.E ∷ comparedList offsets d l r ConditionCode.NE ∷ comparedList offsets d l r ConditionCode.L
+    ∷ comparedList offsets d l r ConditionCode.LE ∷ comparedList offsets d l r ConditionCode.G ∷ comparedList offsets d l r ConditionCode.GE
+    ∷ [] ∷ [] ∷ simpleList offsets d l r BinOp.Add ∷ simpleList offsets d l r BinOp.Sub ∷ []) op []
+
+-- the list with these offsets, of those that are written from their cells
+unfoldable pub openList : List ℕ → Instr → List Instruction
+openList offsets (Instr.Copy dest src) = copyList offsets dest src
+openList offsets (Instr.Unary dest op src) = []
+openList offsets (Instr.Binary dest op left right) = binaryList offsets dest op left right
+openList offsets (Instr.Cast dest src) = []
+openList offsets (Instr.Zero dest) = []
+openList offsets (Instr.Call dest symbol count) = []
+openList offsets (Instr.Label l) = Instruction.Label l ∷ []
+openList offsets (Instr.Jump l) = Instruction.Ctrl CtrlOp.Jmp (Operand.Label l) ∷ []
+openList offsets (Instr.JumpIfNot condition target) = branchList offsets condition target
+openList offsets (Instr.Return op) = []
+openList offsets Instr.Comment = []
+
+-- .. with so many labels; empty for what is left to the list makers
+unfoldable pub quickList : List ℕ → ℕ → Instr → List Instruction
+quickList offsets labels i = cond (eqb (quickCount (length offsets) labels i) 0) [] (openList offsets i)
+
+-- ---- records by their cells
+
+-- a load into a general register of an operand of a tag and a value
+unfoldable pub loadCells : ℕ → ℕ → ℕ → Size → Record
+loadCells reg tag value size =
+    cond (isOneByte size) (cond (eqb tag 2) (cellsRecord 0 0 1 reg tag value 4 0) (cellsRecord 7 2 1 reg tag value 8 1))
+    (cellsRecord 0 0 1 reg tag value (sizeCode size) 0)

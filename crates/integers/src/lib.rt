@@ -1,5 +1,8 @@
 // The short way for instructions on integer variables and constants, which are most of a rule: the number of their records, found on the sheet's cells
 // with no record made. Any other instruction is left to the list makers, and so is one that they refuse.
+mod cellwise;
+mod lists;
+
 use cells::cell_at;
 ghost use mathlib.Core.Path.{_≡_};
 ghost use mathlib.Core.Bool.{cond, _&&_};

@@ -160,7 +160,7 @@ pub fn seven(
     })
 }
 
-fn put_two(out: &mut [u8], at: usize, a: Record, b: Record)
+pub fn put_two(out: &mut [u8], at: usize, a: Record, b: Record)
     requires { ⌜ at + 128 ≤ length (now out) ⌝ }
     ensures { λ _. ⌜ now (out .exit) ≡ write (now (out .entry)) at (bytesOfRecords (recordSays a ∷ recordSays b ∷ [])) ⌝ }
 {
@@ -168,7 +168,7 @@ fn put_two(out: &mut [u8], at: usize, a: Record, b: Record)
     put_record(out, at + 64, b);
 }
 
-fn put_three(out: &mut [u8], at: usize, a: Record, b: Record, c: Record)
+pub fn put_three(out: &mut [u8], at: usize, a: Record, b: Record, c: Record)
     requires { ⌜ at + 192 ≤ length (now out) ⌝ }
     ensures { λ _. ⌜ now (out .exit) ≡ write (now (out .entry)) at (bytesOfRecords (recordSays a ∷ recordSays b ∷ recordSays c ∷ [])) ⌝ }
 {
@@ -184,7 +184,7 @@ fn put_four(out: &mut [u8], at: usize, a: Record, b: Record, c: Record, d: Recor
     put_two(out, at + 128, c, d);
 }
 
-fn put_five(out: &mut [u8], at: usize, a: Record, b: Record, c: Record, d: Record, e: Record)
+pub fn put_five(out: &mut [u8], at: usize, a: Record, b: Record, c: Record, d: Record, e: Record)
     requires { ⌜ at + 320 ≤ length (now out) ⌝ }
     ensures { λ _. ⌜ now (out .exit) ≡ write (now (out .entry)) at (bytesOfRecords (recordSays a ∷ recordSays b ∷ recordSays c ∷ recordSays d ∷ recordSays e ∷ [])) ⌝ }
 {

@@ -1,0 +1,155 @@
+-- The cells of records.
+use Prim.Native.Nat.{ℕ, zero, suc, _+_, _≤_}
+use mathlib.Core.Path.{_≡_, refl, sym, ap, _∙_}
+use mathlib.Core.Bool.{Bool, true, false, cond}
+use mathlib.Core.List.{List, [], _∷_}
+use native.Mathlib.Omega.{arith}
+use lib.Dec.{eqb}
+use lib.ListN.{getD, length}
+use Rattle.cells.specs.Cells.{cellAt, minus}
+use Rattle.ir.specs.declared.Operand.{Operand as IrOp}
+use Rattle.ir.specs.Function.{varOperand, intOperand, floatOperand, boolOperand, addressOperand, dataOperand, operandAt}
+use Rattle.x86.specs.declared.enums.Size.{Size}
+use Rattle.x86.specs.declared.enums.Operand.{Operand}
+use Rattle.x86.specs.declared.enums.ConditionCode.{ConditionCode}
+use Rattle.x86.specs.declared.enums.ExtendOp.{ExtendOp}
+use Rattle.x86.specs.declared.enums.Instruction.{Instruction}
+use Rattle.x86.specs.declared.mem_address.Base.{Base}
+use Rattle.x86.specs.Registers.{gpr}
+use Rattle.x86.specs.Records.{sizeCode, baseTag, tagOf, valueOf, recordOf, conditionCode}
+use Rattle.codegen.specs.Utils.{isOneByte, loadFrom}
+use Rattle.codegen.specs.Arithmetic.{unsignedCode, unsignedCodes}
+use Rattle.integers.specs.Integers.{operandOf, slotOf, valueSize, valueUnsigned, loadCells}
+
+-- behind the last offset
+pub no-offset : (offsets : List ℕ) (k : ℕ) → length offsets ≤ k → 0 ≡ minus (getD offsets k 0)
+no-offset [] k h = refl
+no-offset (x ∷ offsets) zero h = absurd (omega (arith, h))
+no-offset (x ∷ offsets) (suc k) h = no-offset offsets k (omega (arith, h))
+
+pub constant-tag : (offsets : List ℕ) (s : List ℕ) (k : ℕ) → (cellAt s k ≡ 0 → ⊥) → (cellAt s k ≡ 2 → ⊥) → (cellAt s k ≡ 4 → ⊥) → (cellAt s k ≡ 5 → ⊥) → 2 ≡ tagOf (operandOf offsets (operandAt s k))
+unfolding operandAt operandOf
+constant-tag offsets s k = go (cellAt s k)
+  where
+    go : (c : ℕ) → (c ≡ 0 → ⊥) → (c ≡ 2 → ⊥) → (c ≡ 4 → ⊥) → (c ≡ 5 → ⊥) → 2 ≡ tagOf (operandOf offsets (getD (varOperand ∷ intOperand ∷ floatOperand ∷ boolOperand ∷ addressOperand ∷ dataOperand ∷ []) c (λ s k. IrOp.Null) s k))
+    go zero h0 h2 h4 h5 = absurd (h0 refl)
+    go (suc zero) h0 h2 h4 h5 = refl
+    go (suc (suc zero)) h0 h2 h4 h5 = absurd (h2 refl)
+    go (suc (suc (suc zero))) h0 h2 h4 h5 = refl
+    go (suc (suc (suc (suc zero)))) h0 h2 h4 h5 = absurd (h4 refl)
+    go (suc (suc (suc (suc (suc zero))))) h0 h2 h4 h5 = absurd (h5 refl)
+    go (suc (suc (suc (suc (suc (suc n)))))) h0 h2 h4 h5 = refl
+
+pub no-value : (offsets : List ℕ) (s : List ℕ) (k : ℕ) → (cellAt s k ≡ 0 → ⊥) → (cellAt s k ≡ 1 → ⊥) → (cellAt s k ≡ 3 → ⊥) → 0 ≡ valueOf (operandOf offsets (operandAt s k))
+unfolding operandAt operandOf
+no-value offsets s k = go (cellAt s k)
+  where
+    go : (c : ℕ) → (c ≡ 0 → ⊥) → (c ≡ 1 → ⊥) → (c ≡ 3 → ⊥) → 0 ≡ valueOf (operandOf offsets (getD (varOperand ∷ intOperand ∷ floatOperand ∷ boolOperand ∷ addressOperand ∷ dataOperand ∷ []) c (λ s k. IrOp.Null) s k))
+    go zero h0 h1 h3 = absurd (h0 refl)
+    go (suc zero) h0 h1 h3 = absurd (h1 refl)
+    go (suc (suc zero)) h0 h1 h3 = refl
+    go (suc (suc (suc zero))) h0 h1 h3 = absurd (h3 refl)
+    go (suc (suc (suc (suc zero)))) h0 h1 h3 = refl
+    go (suc (suc (suc (suc (suc zero))))) h0 h1 h3 = refl
+    go (suc (suc (suc (suc (suc (suc n)))))) h0 h1 h3 = refl
+
+pub eight-bytes : (s : List ℕ) (k : ℕ) → (cellAt s k ≡ 0 → ⊥) → (cellAt s k ≡ 1 → ⊥) → (cellAt s k ≡ 3 → ⊥) → Size.U64 ≡ valueSize (operandAt s k)
+unfolding operandAt valueSize
+eight-bytes s k = go (cellAt s k)
+  where
+    go : (c : ℕ) → (c ≡ 0 → ⊥) → (c ≡ 1 → ⊥) → (c ≡ 3 → ⊥) → Size.U64 ≡ valueSize (getD (varOperand ∷ intOperand ∷ floatOperand ∷ boolOperand ∷ addressOperand ∷ dataOperand ∷ []) c (λ s k. IrOp.Null) s k)
+    go zero h0 h1 h3 = absurd (h0 refl)
+    go (suc zero) h0 h1 h3 = absurd (h1 refl)
+    go (suc (suc zero)) h0 h1 h3 = refl
+    go (suc (suc (suc zero))) h0 h1 h3 = absurd (h3 refl)
+    go (suc (suc (suc (suc zero)))) h0 h1 h3 = refl
+    go (suc (suc (suc (suc (suc zero))))) h0 h1 h3 = refl
+    go (suc (suc (suc (suc (suc (suc n)))))) h0 h1 h3 = refl
+
+pub unsigned-constant : (s : List ℕ) (k : ℕ) → (cellAt s k ≡ 0 → ⊥) → (cellAt s k ≡ 1 → ⊥) → true ≡ valueUnsigned (operandAt s k)
+unfolding operandAt valueUnsigned
+unsigned-constant s k = go (cellAt s k)
+  where
+    go : (c : ℕ) → (c ≡ 0 → ⊥) → (c ≡ 1 → ⊥) → true ≡ valueUnsigned (getD (varOperand ∷ intOperand ∷ floatOperand ∷ boolOperand ∷ addressOperand ∷ dataOperand ∷ []) c (λ s k. IrOp.Null) s k)
+    go zero h0 h1 = absurd (h0 refl)
+    go (suc zero) h0 h1 = absurd (h1 refl)
+    go (suc (suc zero)) h0 h1 = refl
+    go (suc (suc (suc zero))) h0 h1 = refl
+    go (suc (suc (suc (suc zero)))) h0 h1 = refl
+    go (suc (suc (suc (suc (suc zero))))) h0 h1 = refl
+    go (suc (suc (suc (suc (suc (suc n)))))) h0 h1 = refl
+
+-- the size of one byte is the one of code 1
+pub one-byte : (size : Size) → sizeCode size ≡ 1 → isOneByte size ≡ true
+one-byte Size.NoSize e = absurd (omega (arith, e))
+one-byte Size.U8 e = refl
+one-byte Size.U16 e = absurd (omega (arith, e))
+one-byte Size.U32 e = absurd (omega (arith, e))
+one-byte Size.U64 e = absurd (omega (arith, e))
+
+pub more-bytes : (size : Size) → (sizeCode size ≡ 1 → ⊥) → isOneByte size ≡ false
+more-bytes Size.NoSize h = refl
+more-bytes Size.U8 h = absurd (h refl)
+more-bytes Size.U16 h = refl
+more-bytes Size.U32 h = refl
+more-bytes Size.U64 h = refl
+
+-- an address's tag is no constant's
+no-constant : (b : Base) → eqb (baseTag b) 2 ≡ false
+no-constant Base.Rbp = refl
+no-constant Base.String = refl
+no-constant Base.Float = refl
+
+-- a load by the cells of its operand
+pub load-record : (reg : ℕ) (x : Operand) (size : Size) → loadCells reg (tagOf x) (valueOf x) size ≡ recordOf (loadFrom (gpr reg) x size)
+unfolding loadCells loadFrom recordOf
+load-record reg Operand.NoOperand Size.NoSize = refl
+load-record reg (Operand.Reg r) Size.NoSize = refl
+load-record reg (Operand.Imm n) Size.NoSize = refl
+load-record reg (Operand.Sym n) Size.NoSize = refl
+load-record reg (Operand.Label n) Size.NoSize = refl
+load-record reg (Operand.MemoryAddress a) Size.NoSize = refl
+load-record reg Operand.NoOperand Size.U8 = refl
+load-record reg (Operand.Reg r) Size.U8 = refl
+load-record reg (Operand.Imm n) Size.U8 = refl
+load-record reg (Operand.Sym n) Size.U8 = refl
+load-record reg (Operand.Label n) Size.U8 = refl
+load-record reg (Operand.MemoryAddress a) Size.U8 = rw (no-constant (a .base))
+load-record reg Operand.NoOperand Size.U16 = refl
+load-record reg (Operand.Reg r) Size.U16 = refl
+load-record reg (Operand.Imm n) Size.U16 = refl
+load-record reg (Operand.Sym n) Size.U16 = refl
+load-record reg (Operand.Label n) Size.U16 = refl
+load-record reg (Operand.MemoryAddress a) Size.U16 = refl
+load-record reg Operand.NoOperand Size.U32 = refl
+load-record reg (Operand.Reg r) Size.U32 = refl
+load-record reg (Operand.Imm n) Size.U32 = refl
+load-record reg (Operand.Sym n) Size.U32 = refl
+load-record reg (Operand.Label n) Size.U32 = refl
+load-record reg (Operand.MemoryAddress a) Size.U32 = refl
+load-record reg Operand.NoOperand Size.U64 = refl
+load-record reg (Operand.Reg r) Size.U64 = refl
+load-record reg (Operand.Imm n) Size.U64 = refl
+load-record reg (Operand.Sym n) Size.U64 = refl
+load-record reg (Operand.Label n) Size.U64 = refl
+load-record reg (Operand.MemoryAddress a) Size.U64 = refl
+
+-- the unsigned codes, by their numbers
+pub unsigned-number : (cc : ConditionCode) (n : ℕ) → n ≡ conditionCode cc → (n ≡ 2 → ⊥) → (n ≡ 3 → ⊥) → (n ≡ 4 → ⊥) → (n ≡ 5 → ⊥) → n ≡ conditionCode (unsignedCode cc)
+unfolding unsignedCode
+unsigned-number ConditionCode.E n e h2 h3 h4 h5 = e
+unsigned-number ConditionCode.NE n e h2 h3 h4 h5 = e
+unsigned-number ConditionCode.G n e h2 h3 h4 h5 = absurd (h2 e)
+unsigned-number ConditionCode.GE n e h2 h3 h4 h5 = absurd (h3 e)
+unsigned-number ConditionCode.L n e h2 h3 h4 h5 = absurd (h4 e)
+unsigned-number ConditionCode.LE n e h2 h3 h4 h5 = absurd (h5 e)
+unsigned-number ConditionCode.A n e h2 h3 h4 h5 = e
+unsigned-number ConditionCode.AE n e h2 h3 h4 h5 = e
+unsigned-number ConditionCode.B n e h2 h3 h4 h5 = e
+unsigned-number ConditionCode.BE n e h2 h3 h4 h5 = e
+unsigned-number ConditionCode.P n e h2 h3 h4 h5 = e
+unsigned-number ConditionCode.NP n e h2 h3 h4 h5 = e
+
+pub unsigned-is : (cc : ConditionCode) (n m : ℕ) → n ≡ conditionCode cc → m ≡ conditionCode (getD unsignedCodes n cc) → m ≡ conditionCode (unsignedCode cc)
+unfolding unsignedCode
+unsigned-is cc n m e f = f ∙ ap (λ k. conditionCode (getD unsignedCodes k cc)) e

@@ -1,0 +1,96 @@
+-- What the `_` of a match on an instruction's or an operation's number leaves.
+use Prim.Native.Nat.{ℕ, zero, suc}
+use mathlib.Core.Path.{_≡_, refl, sym, ap}
+use mathlib.Core.List.{List, [], _∷_, append-nil}
+use Rattle.ir.specs.declared.VarId.{VarId}
+use Rattle.ir.specs.declared.Operand.{Operand as IrOp}
+use lib.ListN.{getD, length}
+use Rattle.cells.specs.Cells.{cellAt, write}
+use Rattle.ir.specs.declared.Instr.{Instr}
+use Rattle.ir.specs.Function.{copyAt, unaryAt, binaryAt, castAt, zeroAt, callAt, labelAt, jumpAt, jumpIfNotAt, returnAt, instrAt}
+use Rattle.x86.specs.declared.enums.Operand.{Operand}
+use Rattle.x86.specs.declared.enums.CtrlOp.{CtrlOp}
+use Rattle.x86.specs.declared.enums.Instruction.{Instruction}
+use Rattle.x86.specs.Records.{listBytes, recordBytes, cellsRecord, recordOf}
+use borrow.Author.Tests.{ne-eqb}
+use Rattle.records.specs.Records.{bytesOfRecords}
+use Rattle.records.proofs.Written.{nothing}
+use Rattle.integers.specs.Integers.{binaryList, openList, quickCount, quickList}
+
+pub no-list : (offsets : List ℕ) (d : VarId) (l r : IrOp) (op : ℕ) → (op ≡ 2 → ⊥) → (op ≡ 3 → ⊥) → (op ≡ 4 → ⊥) → (op ≡ 5 → ⊥) → (op ≡ 6 → ⊥) → (op ≡ 7 → ⊥) → (op ≡ 8 → ⊥) → (op ≡ 9 → ⊥) → (op ≡ 10 → ⊥) → (op ≡ 13 → ⊥) → (op ≡ 14 → ⊥) → binaryList offsets d op l r ≡ []
+unfolding binaryList
+no-list offsets d l r zero h2 h3 h4 h5 h6 h7 h8 h9 h10 h13 h14 = refl
+no-list offsets d l r (suc zero) h2 h3 h4 h5 h6 h7 h8 h9 h10 h13 h14 = refl
+no-list offsets d l r (suc (suc zero)) h2 h3 h4 h5 h6 h7 h8 h9 h10 h13 h14 = absurd (h2 refl)
+no-list offsets d l r (suc (suc (suc zero))) h2 h3 h4 h5 h6 h7 h8 h9 h10 h13 h14 = absurd (h3 refl)
+no-list offsets d l r (suc (suc (suc (suc zero)))) h2 h3 h4 h5 h6 h7 h8 h9 h10 h13 h14 = absurd (h4 refl)
+no-list offsets d l r (suc (suc (suc (suc (suc zero))))) h2 h3 h4 h5 h6 h7 h8 h9 h10 h13 h14 = absurd (h5 refl)
+no-list offsets d l r (suc (suc (suc (suc (suc (suc zero)))))) h2 h3 h4 h5 h6 h7 h8 h9 h10 h13 h14 = absurd (h6 refl)
+no-list offsets d l r (suc (suc (suc (suc (suc (suc (suc zero))))))) h2 h3 h4 h5 h6 h7 h8 h9 h10 h13 h14 = absurd (h7 refl)
+no-list offsets d l r (suc (suc (suc (suc (suc (suc (suc (suc zero)))))))) h2 h3 h4 h5 h6 h7 h8 h9 h10 h13 h14 = absurd (h8 refl)
+no-list offsets d l r (suc (suc (suc (suc (suc (suc (suc (suc (suc zero))))))))) h2 h3 h4 h5 h6 h7 h8 h9 h10 h13 h14 = absurd (h9 refl)
+no-list offsets d l r (suc (suc (suc (suc (suc (suc (suc (suc (suc (suc zero)))))))))) h2 h3 h4 h5 h6 h7 h8 h9 h10 h13 h14 = absurd (h10 refl)
+no-list offsets d l r (suc (suc (suc (suc (suc (suc (suc (suc (suc (suc (suc zero))))))))))) h2 h3 h4 h5 h6 h7 h8 h9 h10 h13 h14 = refl
+no-list offsets d l r (suc (suc (suc (suc (suc (suc (suc (suc (suc (suc (suc (suc zero)))))))))))) h2 h3 h4 h5 h6 h7 h8 h9 h10 h13 h14 = refl
+no-list offsets d l r (suc (suc (suc (suc (suc (suc (suc (suc (suc (suc (suc (suc (suc zero))))))))))))) h2 h3 h4 h5 h6 h7 h8 h9 h10 h13 h14 = absurd (h13 refl)
+no-list offsets d l r (suc (suc (suc (suc (suc (suc (suc (suc (suc (suc (suc (suc (suc (suc zero)))))))))))))) h2 h3 h4 h5 h6 h7 h8 h9 h10 h13 h14 = absurd (h14 refl)
+no-list offsets d l r (suc (suc (suc (suc (suc (suc (suc (suc (suc (suc (suc (suc (suc (suc (suc n))))))))))))))) h2 h3 h4 h5 h6 h7 h8 h9 h10 h13 h14 = refl
+
+-- no record leaves every byte
+pub none-written : (s : List ℕ) (at : ℕ) → s ≡ write s at (listBytes [])
+unfolding listBytes bytesOfRecords
+none-written s at = nothing s at
+
+-- the instructions that are left to their list makers
+pub no-open : (offsets : List ℕ) (s : List ℕ) (k : ℕ) → (cellAt s k ≡ 0 → ⊥) → (cellAt s k ≡ 2 → ⊥) → (cellAt s k ≡ 6 → ⊥) → (cellAt s k ≡ 7 → ⊥) → (cellAt s k ≡ 8 → ⊥) → openList offsets (instrAt s k) ≡ []
+unfolding instrAt openList
+no-open offsets s k = go (cellAt s k)
+  where
+    go : (c : ℕ) → (c ≡ 0 → ⊥) → (c ≡ 2 → ⊥) → (c ≡ 6 → ⊥) → (c ≡ 7 → ⊥) → (c ≡ 8 → ⊥) → openList offsets (getD (copyAt ∷ unaryAt ∷ binaryAt ∷ castAt ∷ zeroAt ∷ callAt ∷ labelAt ∷ jumpAt ∷ jumpIfNotAt ∷ returnAt ∷ []) c (λ s k. Instr.Comment) s k) ≡ []
+    go zero h0 h2 h6 h7 h8 = absurd (h0 refl)
+    go (suc zero) h0 h2 h6 h7 h8 = refl
+    go (suc (suc zero)) h0 h2 h6 h7 h8 = absurd (h2 refl)
+    go (suc (suc (suc zero))) h0 h2 h6 h7 h8 = refl
+    go (suc (suc (suc (suc zero)))) h0 h2 h6 h7 h8 = refl
+    go (suc (suc (suc (suc (suc zero))))) h0 h2 h6 h7 h8 = refl
+    go (suc (suc (suc (suc (suc (suc zero)))))) h0 h2 h6 h7 h8 = absurd (h6 refl)
+    go (suc (suc (suc (suc (suc (suc (suc zero))))))) h0 h2 h6 h7 h8 = absurd (h7 refl)
+    go (suc (suc (suc (suc (suc (suc (suc (suc zero)))))))) h0 h2 h6 h7 h8 = absurd (h8 refl)
+    go (suc (suc (suc (suc (suc (suc (suc (suc (suc zero))))))))) h0 h2 h6 h7 h8 = refl
+    go (suc (suc (suc (suc (suc (suc (suc (suc (suc (suc n)))))))))) h0 h2 h6 h7 h8 = refl
+
+-- ---- the list of an instruction, by its kind
+
+pub as-open : (offsets : List ℕ) (labels : ℕ) (s : List ℕ) (k : ℕ) (i : Instr) → (quickCount (length offsets) labels (instrAt s k) ≡ 0 → ⊥) → instrAt s k ≡ i
+    → quickList offsets labels (instrAt s k) ≡ openList offsets i
+unfolding quickList
+as-open offsets labels s k i h e = rw (ne-eqb (quickCount (length offsets) labels (instrAt s k)) 0 h) (ap (openList offsets) e)
+
+pub is-0 : (s : List ℕ) (k : ℕ) → cellAt s k ≡ 0 → instrAt s k ≡ copyAt s k
+unfolding instrAt
+is-0 s k e = rw (e)
+
+pub is-2 : (s : List ℕ) (k : ℕ) → cellAt s k ≡ 2 → instrAt s k ≡ binaryAt s k
+unfolding instrAt
+is-2 s k e = rw (e)
+
+pub is-6 : (s : List ℕ) (k : ℕ) → cellAt s k ≡ 6 → instrAt s k ≡ labelAt s k
+unfolding instrAt
+is-6 s k e = rw (e)
+
+pub is-7 : (s : List ℕ) (k : ℕ) → cellAt s k ≡ 7 → instrAt s k ≡ jumpAt s k
+unfolding instrAt
+is-7 s k e = rw (e)
+
+pub is-8 : (s : List ℕ) (k : ℕ) → cellAt s k ≡ 8 → instrAt s k ≡ jumpIfNotAt s k
+unfolding instrAt
+is-8 s k e = rw (e)
+
+-- the bytes of one record
+pub label-bytes : (l : ℕ) → recordBytes (cellsRecord 9 0 4 l 0 0 0 0) ≡ listBytes (Instruction.Label l ∷ [])
+unfolding listBytes recordOf
+label-bytes l = sym (append-nil (recordBytes (cellsRecord 9 0 4 l 0 0 0 0)))
+
+pub jump-bytes : (l : ℕ) → recordBytes (cellsRecord 6 0 4 l 0 0 0 0) ≡ listBytes (Instruction.Ctrl CtrlOp.Jmp (Operand.Label l) ∷ [])
+unfolding listBytes recordOf
+jump-bytes l = sym (append-nil (recordBytes (cellsRecord 6 0 4 l 0 0 0 0)))

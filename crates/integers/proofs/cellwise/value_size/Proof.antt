@@ -1,0 +1,42 @@
+use Rattle.ir.specs.Function.{operandAt}
+use Rattle.integers.specs.Integers.{valueSize}
+use Rattle.integers.proofs.Forms.{eight-bytes}
+use borrow.Author.Needs.{needs}
+use Rattle.integers.proofs.cellwise.value_size.Statement.{statement}
+use Rattle.integers.proofs.cellwise.value_size.Tie as tie
+
+cell-at-requires : tie.Need-cell-at-requires
+cell-at-requires c κs = search needs
+
+add-size-at : tie.Need-add-size-at
+add-size-at c = search needs
+
+size-at-requires : tie.Need-size-at-requires
+size-at-requires c κs = search needs
+
+add-cell-at : tie.Need-add-cell-at
+add-cell-at c = search needs
+
+cell-at-requires-2 : tie.Need-cell-at-requires-2
+cell-at-requires-2 c κs = search needs
+
+constant-size-requires : tie.Need-constant-size-requires
+constant-size-requires c κs = search needs
+
+returns : tie.Need-returns
+unfolding operandAt valueSize
+returns c = simp (← c .before .before .cell-at .ensures, c .before .match .keys1, c .size-at .ensures)
+
+returns-2 : tie.Need-returns-2
+unfolding operandAt valueSize
+returns-2 c = simp (← c .before .before .before .cell-at .ensures, c .before .before .match .keys2, c .constant-size .ensures, c .before .cell-at2 .ensures)
+
+returns-3 : tie.Need-returns-3
+unfolding operandAt valueSize
+returns-3 c = simp (← c .before .cell-at .ensures, c .match .keys3)
+
+returns-4 : tie.Need-returns-4
+returns-4 c = eight-bytes _ _ (rw (← c .before .cell-at .ensures) (c .match .rest .0 .0 .1)) (rw (← c .before .cell-at .ensures) (c .match .rest .0 .1)) (rw (← c .before .cell-at .ensures) (c .match .rest .1))
+
+pub value-size-spec : {M : Type 1} → statement M
+value-size-spec = tie.close (tie.spec cell-at-requires add-size-at size-at-requires add-cell-at cell-at-requires-2 constant-size-requires returns returns-2 returns-3 returns-4)

@@ -1,0 +1,256 @@
+// The records of instructions on integers, by their cells.
+use cells::cell_at;
+use ir::read::type_at;
+use ir::read::var_at;
+use x86::enums::BinOp;
+use x86::enums::ConditionCode;
+use x86::enums::Size;
+use x86::record::Record;
+ghost use mathlib.Core.Path.{_≡_};
+ghost use mathlib.Core.Bool.{cond};
+ghost use lib.Dec.{eqb};
+ghost use Prim.Native.Nat.{_+_, _≤_};
+ghost use lib.ListN.{getD};
+ghost use Rattle.cells.specs.Cells.{cells, minus};
+ghost use Rattle.ir.specs.Types.{elfSize};
+ghost use Rattle.ir.specs.Function.{varAt, operandAt};
+ghost use Rattle.x86.specs.declared.enums.Operand.{Operand};
+ghost use Rattle.x86.specs.declared.enums.Instruction.{Instruction};
+ghost use Rattle.x86.specs.declared.enums.Size.{Size};
+ghost use Rattle.x86.specs.declared.enums.BinOp.{BinOp};
+ghost use Rattle.x86.specs.Registers.{gpr, RAX, RCX};
+ghost use Rattle.x86.specs.Records.{tagOf, valueOf, recordOf, cellsRecord, conditionCode};
+ghost use Rattle.x86.specs.Says.{recordSays};
+ghost use Rattle.codegen.specs.Arithmetic.{unsignedCode};
+ghost use Rattle.integers.specs.Integers.{operandOf, valueSize, valueUnsigned, load, store, loadCells};
+
+// The pattern of minus a variable's offset.
+fn slot(offsets: &[u64], id: u64) -> u64
+    ensures { λ r. ⌜ r ≡ minus (getD (now (offsets .entry)) id 0) ⌝ }
+{
+    if id < offsets.len() as u64 {
+        let k = id as usize;
+        negated(offsets[k])
+    } else {
+        0
+    }
+}
+
+fn negated(n: u64) -> u64
+    ensures { λ r. ⌜ r ≡ minus n ⌝ }
+{
+    if n == 0 {
+        0
+    } else {
+        0xffff_ffff_ffff_ffff - n + 1
+    }
+}
+
+// An operand's tag: a slot, a constant, or none.
+fn operand_tag(offsets: &[u64], s: &[u8], k: usize) -> u64
+    requires { ⌜ k + 4 ≤ cells (now s) ⌝ }
+    ensures { λ r. ⌜ r ≡ tagOf (operandOf (now (offsets .entry)) (operandAt (now (s .entry)) k)) ⌝ }
+{
+    match cell_at(s, k) {
+        0 => 5,
+        2 => 0,
+        4 => 0,
+        5 => 0,
+        _ => 2,
+    }
+}
+
+// An operand's value: a slot's displacement, or the constant.
+fn operand_value(offsets: &[u64], s: &[u8], k: usize) -> u64
+    requires { ⌜ k + 4 ≤ cells (now s) ⌝ }
+    ensures { λ r. ⌜ r ≡ valueOf (operandOf (now (offsets .entry)) (operandAt (now (s .entry)) k)) ⌝ }
+{
+    match cell_at(s, k) {
+        0 => slot(offsets, cell_at(s, k + 1)),
+        1 => cell_at(s, k + 1),
+        3 => truth(cell_at(s, k + 1)),
+        _ => 0,
+    }
+}
+
+// 1 for 1, else 0.
+fn truth(n: u64) -> u64
+    ensures { λ r. ⌜ r ≡ cond (eqb n 1) 1 0 ⌝ }
+{
+    if n == 1 { 1 } else { 0 }
+}
+
+// A load into a general register: one byte by Movzx, or by a four-byte Mov of a constant; the rest by Mov.
+fn load_cells(reg: u64, tag: u64, value: u64, size: Size) -> Record
+    ensures { λ r. ⌜ recordSays r ≡ loadCells reg tag value size ⌝ }
+{
+    let code = size.code();
+    if code == 1 {
+        if tag == 2 {
+            return cells_record(0, 0, reg, tag, value, 4, 0);
+        }
+        return cells_record(7, 2, reg, tag, value, 8, 1);
+    }
+    cells_record(0, 0, reg, tag, value, code, 0)
+}
+
+fn cells_record(
+    form: u64,
+    operation: u64,
+    reg: u64,
+    tag: u64,
+    value: u64,
+    size: u64,
+    source: u64,
+) -> Record
+    ensures { λ r. ⌜ recordSays r ≡ cellsRecord form operation 1 reg tag value size source ⌝ }
+{
+    Record {
+        form,
+        operation,
+        dst_tag: 1,
+        dst: reg,
+        src_tag: tag,
+        src: value,
+        size,
+        src_size: source,
+    }
+}
+
+// The operand at cell `k` into a general register.
+pub fn load(offsets: &[u64], s: &[u8], k: usize, reg: u64, size: Size) -> Record
+    requires { ⌜ k + 4 ≤ cells (now s) ⌝ }
+    ensures { λ r. ⌜ recordSays r ≡ recordOf (load (now (offsets .entry)) (gpr reg) (operandAt (now (s .entry)) k) size) ⌝ }
+{
+    let tag = operand_tag(offsets, s, k);
+    load_cells(reg, tag, operand_value(offsets, s, k), size)
+}
+
+// RAX into the variable at cell `k`.
+pub fn store(offsets: &[u64], s: &[u8], k: usize) -> Record
+    requires { ⌜ k + 3 ≤ cells (now s) ⌝ }
+    ensures { λ r. ⌜ recordSays r ≡ recordOf (store (now (offsets .entry)) (varAt (now (s .entry)) k) RAX) ⌝ }
+{
+    let size = size_at(s, k);
+    Record {
+        form: 0,
+        operation: 0,
+        dst_tag: 5,
+        dst: slot(offsets, cell_at(s, k)),
+        src_tag: 1,
+        src: 0,
+        size: size.code(),
+        src_size: 0,
+    }
+}
+
+// The size of a move that touches the variable at cell `k`.
+pub fn size_at(s: &[u8], k: usize) -> Size
+    requires { ⌜ k + 3 ≤ cells (now s) ⌝ }
+    ensures { λ r. ⌜ r ≡ elfSize (varAt (now (s .entry)) k .ty) ⌝ }
+{
+    let ty = type_at(s, k + 1);
+    ty.to_elf_size()
+}
+
+// `op rax, right`, of the operand at cell `k`.
+pub fn operation(offsets: &[u64], s: &[u8], k: usize, op: BinOp, size: Size) -> Record
+    requires { ⌜ k + 4 ≤ cells (now s) ⌝ }
+    ensures { λ r. ⌜ recordSays r ≡ recordOf (Instruction.Binary op (Operand.Reg RAX) (operandOf (now (offsets .entry)) (operandAt (now (s .entry)) k)) size) ⌝ }
+{
+    let tag = operand_tag(offsets, s, k);
+    let value = operand_value(offsets, s, k);
+    cells_record(0, op.code(), 0, tag, value, size.code(), 0)
+}
+
+// `cmp rax, rcx`
+pub fn compare(size: Size) -> Record
+    ensures { λ r. ⌜ recordSays r ≡ recordOf (Instruction.Binary BinOp.Cmp (Operand.Reg RAX) (Operand.Reg RCX) size) ⌝ }
+{
+    cells_record(0, 9, 0, 1, 1, size.code(), 0)
+}
+
+// The size of a move of the value of the operand at cell `k`.
+pub fn value_size(s: &[u8], k: usize) -> Size
+    requires { ⌜ k + 4 ≤ cells (now s) ⌝ }
+    ensures { λ r. ⌜ r ≡ valueSize (operandAt (now (s .entry)) k) ⌝ }
+{
+    match cell_at(s, k) {
+        0 => size_at(s, k + 1),
+        1 => constant_size(cell_at(s, k + 2)),
+        3 => Size::U8,
+        _ => Size::U64,
+    }
+}
+
+fn constant_size(short: u64) -> Size
+    ensures { λ r. ⌜ r ≡ cond (eqb short 1) Size.U32 Size.U64 ⌝ }
+{
+    if short == 1 { Size::U32 } else { Size::U64 }
+}
+
+// Whether the operand at cell `k` is compared as an unsigned one.
+fn is_unsigned(s: &[u8], k: usize) -> bool
+    requires { ⌜ k + 4 ≤ cells (now s) ⌝ }
+    ensures { λ r. ⌜ r ≡ valueUnsigned (operandAt (now (s .entry)) k) ⌝ }
+{
+    match cell_at(s, k) {
+        0 => {
+            let v = var_at(s, k + 1);
+            let ty = v.ty;
+            ty.is_unsigned()
+        }
+        1 => cell_at(s, k + 3) == 1,
+        _ => true,
+    }
+}
+
+// A condition code's number, of the unsigned code where it is asked for.
+fn flag_code(cc: ConditionCode, unsigned: bool) -> u64
+    ensures { λ r. ⌜ r ≡ conditionCode (cond unsigned (unsignedCode cc) cc) ⌝ }
+{
+    let code = cc.code();
+    if unsigned {
+        match code {
+            2 => 6,
+            3 => 7,
+            4 => 8,
+            5 => 9,
+            _ => code,
+        }
+    } else {
+        code
+    }
+}
+
+// The flag of a comparison, signed or unsigned by the operand at cell `k`, into RAX.
+pub fn set(s: &[u8], k: usize, cc: ConditionCode) -> Record
+    requires { ⌜ k + 4 ≤ cells (now s) ⌝ }
+    ensures { λ r. ⌜ recordSays r ≡ recordOf (Instruction.SetCC (cond (valueUnsigned (operandAt (now (s .entry)) k)) (unsignedCode cc) cc) (Operand.Reg RAX)) ⌝ }
+{
+    let unsigned = is_unsigned(s, k);
+    cells_record(12, flag_code(cc, unsigned), 0, 0, 0, 0, 0)
+}
+
+// `cmp al, 0`
+pub fn zero_test() -> Record
+    ensures { λ r. ⌜ recordSays r ≡ recordOf (Instruction.Binary BinOp.Cmp (Operand.Reg RAX) (Operand.Imm 0) Size.U8) ⌝ }
+{
+    cells_record(0, 9, 0, 2, 0, 1, 0)
+}
+
+// A label, or a jump to it, by form and operation.
+pub fn label_record(form: u64, operation: u64, label: u64) -> Record
+    ensures { λ r. ⌜ recordSays r ≡ cellsRecord form operation 4 label 0 0 0 0 ⌝ }
+{
+    Record {
+        form,
+        operation,
+        dst_tag: 4,
+        dst: label,
+        src_tag: 0,
+        src: 0,
+        size: 0,
+        src_size: 0,
+    }
+}

@@ -1,0 +1,134 @@
+// The lists of instructions on integers, written from their cells into the lent slice.
+use cells::cell_at;
+use crate::cellwise::compare;
+use crate::cellwise::label_record;
+use crate::cellwise::load;
+use crate::cellwise::operation;
+use crate::cellwise::set;
+use crate::cellwise::size_at;
+use crate::cellwise::store;
+use crate::cellwise::value_size;
+use crate::cellwise::zero_test;
+use crate::count_instr;
+use records::put_five;
+use records::put_three;
+use records::put_two;
+use x86::enums::BinOp;
+use x86::enums::ConditionCode;
+use x86::enums::Size;
+use x86::record::put_record;
+ghost use mathlib.Core.Path.{_≡_};
+ghost use Prim.Native.Nat.{_+_, _≤_};
+ghost use lib.ListN.{length};
+ghost use Rattle.cells.specs.Cells.{cells, cellAt, write};
+ghost use Rattle.ir.specs.Function.{varAt, operandAt, instrAt};
+ghost use Rattle.x86.specs.Records.{listBytes, recordBytes, cellsRecord};
+ghost use Rattle.integers.specs.Integers.{copyList, simpleList, comparedList, branchList, binaryList, quickList};
+
+fn put_copy(offsets: &[u64], s: &[u8], k: usize, out: &mut [u8], at: usize) -> u64
+    requires { ⌜ k + 13 ≤ cells (now s) ⌝ }
+    requires { ⌜ at + 128 ≤ length (now out) ⌝ }
+    ensures { λ r. ⌜ r ≡ 2 ⌝ }
+    ensures { λ r. ⌜ now (out .exit) ≡ write (now (out .entry)) at (listBytes (copyList (now (offsets .entry)) (varAt (now (s .entry)) (k + 2)) (operandAt (now (s .entry)) (k + 5)))) ⌝ }
+{
+    let a = load(offsets, s, k + 5, 0, size_at(s, k + 2));
+    put_two(out, at, a, store(offsets, s, k + 2));
+    2
+}
+
+// `mov rax, left ; op rax, right ; mov [dest], rax`
+fn put_simple(offsets: &[u64], s: &[u8], k: usize, op: BinOp, out: &mut [u8], at: usize) -> u64
+    requires { ⌜ k + 13 ≤ cells (now s) ⌝ }
+    requires { ⌜ at + 192 ≤ length (now out) ⌝ }
+    ensures { λ r. ⌜ r ≡ 3 ⌝ }
+    ensures { λ r. ⌜ now (out .exit) ≡ write (now (out .entry)) at (listBytes (simpleList (now (offsets .entry)) (varAt (now (s .entry)) (k + 2)) (operandAt (now (s .entry)) (k + 5)) (operandAt (now (s .entry)) (k + 9)) op)) ⌝ }
+{
+    let size = size_at(s, k + 2);
+    let a = load(offsets, s, k + 5, 0, size);
+    let b = operation(offsets, s, k + 9, op, size);
+    put_three(out, at, a, b, store(offsets, s, k + 2));
+    3
+}
+
+// `mov rax, left ; mov rcx, right ; cmp rax, rcx ; setcc al ; mov [dest], al`
+fn put_compared(offsets: &[u64], s: &[u8], k: usize, cc: ConditionCode, out: &mut [u8], at: usize) -> u64
+    requires { ⌜ k + 13 ≤ cells (now s) ⌝ }
+    requires { ⌜ at + 320 ≤ length (now out) ⌝ }
+    ensures { λ r. ⌜ r ≡ 5 ⌝ }
+    ensures { λ r. ⌜ now (out .exit) ≡ write (now (out .entry)) at (listBytes (comparedList (now (offsets .entry)) (varAt (now (s .entry)) (k + 2)) (operandAt (now (s .entry)) (k + 5)) (operandAt (now (s .entry)) (k + 9)) cc)) ⌝ }
+{
+    let d = store(offsets, s, k + 2);
+    let size = value_size(s, k + 5);
+    let a = load(offsets, s, k + 5, 0, size);
+    let b = load(offsets, s, k + 9, 1, size);
+    let flag = set(s, k + 5, cc);
+    put_five(out, at, a, b, compare(size), flag, d);
+    5
+}
+
+// `mov al, condition ; cmp al, 0 ; je label`
+fn put_branch(offsets: &[u64], s: &[u8], k: usize, label: u64, out: &mut [u8], at: usize) -> u64
+    requires { ⌜ k + 13 ≤ cells (now s) ⌝ }
+    requires { ⌜ at + 192 ≤ length (now out) ⌝ }
+    ensures { λ r. ⌜ r ≡ 3 ⌝ }
+    ensures { λ r. ⌜ now (out .exit) ≡ write (now (out .entry)) at (listBytes (branchList (now (offsets .entry)) (operandAt (now (s .entry)) (k + 5)) label)) ⌝ }
+{
+    let a = load(offsets, s, k + 5, 0, Size::U8);
+    put_three(out, at, a, zero_test(), label_record(6, 64, label));
+    3
+}
+
+// A binary operation, by its number, of those that are simple or compare; room for five records is there.
+fn put_binary(offsets: &[u64], s: &[u8], k: usize, out: &mut [u8], at: usize) -> u64
+    requires { ⌜ k + 13 ≤ cells (now s) ⌝ }
+    requires { ⌜ at + 320 ≤ length (now out) ⌝ }
+    ensures { λ r. ⌜ r ≡ length (binaryList (now (offsets .entry)) (varAt (now (s .entry)) (k + 2)) (cellAt (now (s .entry)) (k + 1)) (operandAt (now (s .entry)) (k + 5)) (operandAt (now (s .entry)) (k + 9))) ⌝ }
+    ensures { λ r. ⌜ now (out .exit) ≡ write (now (out .entry)) at (listBytes (binaryList (now (offsets .entry)) (varAt (now (s .entry)) (k + 2)) (cellAt (now (s .entry)) (k + 1)) (operandAt (now (s .entry)) (k + 5)) (operandAt (now (s .entry)) (k + 9)))) ⌝ }
+{
+    match cell_at(s, k + 1) {
+        2 => put_simple(offsets, s, k, BinOp::Or, out, at),
+        3 => put_simple(offsets, s, k, BinOp::Xor, out, at),
+        4 => put_simple(offsets, s, k, BinOp::And, out, at),
+        5 => put_compared(offsets, s, k, ConditionCode::E, out, at),
+        6 => put_compared(offsets, s, k, ConditionCode::NE, out, at),
+        7 => put_compared(offsets, s, k, ConditionCode::L, out, at),
+        8 => put_compared(offsets, s, k, ConditionCode::LE, out, at),
+        9 => put_compared(offsets, s, k, ConditionCode::G, out, at),
+        10 => put_compared(offsets, s, k, ConditionCode::GE, out, at),
+        13 => put_simple(offsets, s, k, BinOp::Add, out, at),
+        14 => put_simple(offsets, s, k, BinOp::Sub, out, at),
+        _ => 0,
+    }
+}
+
+// The instruction at cell `k`, where it is one on integers of those above; room for five records is there. The number of its records, 0 where it is left
+// to its list maker.
+pub fn put_quick(offsets: &[u64], s: &[u8], k: usize, labels: u64, out: &mut [u8], at: usize) -> u64
+    requires { ⌜ k + 13 ≤ cells (now s) ⌝ }
+    requires { ⌜ at + 320 ≤ length (now out) ⌝ }
+    ensures { λ r. ⌜ r ≡ length (quickList (now (offsets .entry)) labels (instrAt (now (s .entry)) k)) ⌝ }
+    ensures { λ r. ⌜ now (out .exit) ≡ write (now (out .entry)) at (listBytes (quickList (now (offsets .entry)) labels (instrAt (now (s .entry)) k))) ⌝ }
+{
+    let n = count_instr(offsets, s, k, labels);
+    if n == 0 {
+        return 0;
+    }
+    match cell_at(s, k) {
+        0 => put_copy(offsets, s, k, out, at),
+        2 => put_binary(offsets, s, k, out, at),
+        6 => put_label(9, 0, cell_at(s, k + 1), out, at),
+        7 => put_label(6, 0, cell_at(s, k + 1), out, at),
+        8 => put_branch(offsets, s, k, cell_at(s, k + 1), out, at),
+        _ => 0,
+    }
+}
+
+// A label, or a jump to it.
+fn put_label(form: u64, operation: u64, label: u64, out: &mut [u8], at: usize) -> u64
+    requires { ⌜ at + 64 ≤ length (now out) ⌝ }
+    ensures { λ r. ⌜ r ≡ 1 ⌝ }
+    ensures { λ r. ⌜ now (out .exit) ≡ write (now (out .entry)) at (recordBytes (cellsRecord form operation 4 label 0 0 0 0)) ⌝ }
+{
+    put_record(out, at, label_record(form, operation, label));
+    1
+}
