@@ -6,6 +6,9 @@ use native.Mathlib.Omega.{arith}
 use lib.ListN.{length}
 use Rattle.ir.specs.Types.{Result, ok, refused}
 use Rattle.x86.specs.declared.enums.Instruction.{Instruction}
+use Rattle.cells.specs.Cells.{write}
+use Rattle.x86.specs.Records.{listBytes}
+use Rattle.integers.proofs.Left.{none-written}
 use Rattle.utils.specs.Answers.{counted}
 use Rattle.utils.specs.Parts.{Put, PutAll}
 
@@ -23,3 +26,12 @@ only-counted at (ok is) old n r z e = (sym e, record { long = refl; bytes = λ h
     full zero q h = z (sym q)
     full (suc m) q h = omega (arith, r, h)
 only-counted at (refused m) old n r z e = absurd (never m n e)
+
+-- room for five records
+pub five-fit : (len at : ℕ) → 5 ≤ (len - at) / 64 → at + 320 ≤ len
+five-fit len at h = omega (arith, h)
+
+-- no record, no byte
+pub unwritten : (old : List ℕ) (at : ℕ) (is : List Instruction) → length is ≡ 0 → write old at (listBytes is) ≡ old
+unwritten old at [] e = sym (none-written old at)
+unwritten old at (i ∷ is) e = absurd (omega (arith, e))

@@ -10,6 +10,7 @@ use instructions::generate_label;
 use instructions::generate_return;
 use instructions::generate_zero;
 use integers::count_instr;
+use integers::lists::put_quick;
 use ir::Instr;
 use ir::Type;
 use ir::read::instr_at;
@@ -23,6 +24,7 @@ use x86::record::record_of;
 ghost use mathlib.Core.Path.{_≡_};
 ghost use mathlib.Core.List.{[]};
 ghost use Prim.Native.Nat.{_+_, _≤_};
+ghost use lib.ListN.{length};
 ghost use Rattle.cells.specs.Cells.{cells};
 ghost use Rattle.ir.specs.Types.{ok};
 ghost use Rattle.ir.specs.Function.{instrAt, operandsAt, argumentsAt, behind};
@@ -111,7 +113,33 @@ fn put_made(
     put_records(out, at, generate_instr(tables, offsets, labels, ret, i))
 }
 
-// The records of the instruction at cell `k`, in a function of so many labels and a return type, from `at` on. Without room for one they are only counted.
+// From its cells where it is an instruction on integers, else by its list maker; with room for five records.
+fn put_quickly(
+    tables: &[u8],
+    offsets: &[u64],
+    sheet: &[u8],
+    k: usize,
+    labels: u64,
+    ret: Type,
+    out: &mut [u8],
+    at: usize,
+) -> Made
+    requires { ⌜ behind (now sheet) k ≤ cells (now sheet) ⌝ }
+    requires { ⌜ argumentsAt (now sheet) k ≤ 64 ⌝ }
+    requires { ⌜ at ≤ 4294967296 ⌝ }
+    requires { ⌜ at + 320 ≤ length (now out) ⌝ }
+    ensures { λ r. ⌜ madeSays r ≡ counted (generateInstr (lent (now (tables .entry)) (now (offsets .entry))) labels ret (instrAt (now (sheet .entry)) k) (operandsAt (now (sheet .entry)) (argumentsAt (now (sheet .entry)) k) (k + 13))) ⌝ }
+    ensures { λ r. ⌜ PutAll at (generateInstr (lent (now (tables .entry)) (now (offsets .entry))) labels ret (instrAt (now (sheet .entry)) k) (operandsAt (now (sheet .entry)) (argumentsAt (now (sheet .entry)) k) (k + 13))) (now (out .entry)) (now (out .exit)) ⌝ }
+{
+    let n = put_quick(offsets, sheet, k, labels, out, at);
+    if n != 0 {
+        return Made::Records(n);
+    }
+    put_made(tables, offsets, sheet, k, labels, ret, out, at)
+}
+
+// The records of the instruction at cell `k`, in a function of so many labels and a return type, from `at` on. Without room for one record they are only
+// counted.
 pub fn put_instr(
     tables: &[u8],
     offsets: &[u64],
@@ -128,11 +156,16 @@ pub fn put_instr(
     ensures { λ r. ⌜ madeSays r ≡ counted (generateInstr (lent (now (tables .entry)) (now (offsets .entry))) labels ret (instrAt (now (sheet .entry)) k) (operandsAt (now (sheet .entry)) (argumentsAt (now (sheet .entry)) k) (k + 13))) ⌝ }
     ensures { λ r. ⌜ PutAll at (generateInstr (lent (now (tables .entry)) (now (offsets .entry))) labels ret (instrAt (now (sheet .entry)) k) (operandsAt (now (sheet .entry)) (argumentsAt (now (sheet .entry)) k) (k + 13))) (now (out .entry)) (now (out .exit)) ⌝ }
 {
-    if room(out.len(), at) == 0 {
+    let left = room(out.len(), at);
+    if left == 0 {
         let n = count_instr(offsets, sheet, k, labels);
         if n != 0 {
             return Made::Records(n);
         }
+        return put_made(tables, offsets, sheet, k, labels, ret, out, at);
     }
-    put_made(tables, offsets, sheet, k, labels, ret, out, at)
+    if left < 5 {
+        return put_made(tables, offsets, sheet, k, labels, ret, out, at);
+    }
+    put_quickly(tables, offsets, sheet, k, labels, ret, out, at)
 }

@@ -4,13 +4,15 @@ use mathlib.Core.Path.{_≡_, refl, sym, ap, _∙_}
 use mathlib.Core.Bool.{Bool, true, false, cond, _&&_, _||_}
 use mathlib.Core.List.{List, [], _∷_, _++_}
 use lib.ListN.{length, getD}
+use native.Mathlib.Omega.{arith}
 use lib.Dec.{ltb, eqb}
+use borrow.Author.Tests.{eq-eqb}
 use Rattle.ir.specs.declared.«Type».{«Type» as IrType}
 use Rattle.ir.specs.declared.VarId.{VarId}
 use Rattle.ir.specs.declared.UnaryOp.{UnaryOp as IrUnary}
 use Rattle.ir.specs.declared.Operand.{Operand as IrOp}
 use Rattle.ir.specs.declared.Instr.{Instr}
-use Rattle.ir.specs.Types.{Result, ok, refused, _>>=_, noArray, isScalar, elementWidth, bytes, typeSize, isFloat, isUnsigned, elfSize, operandSize}
+use Rattle.ir.specs.Types.{Result, ok, refused, _>>=_, noArray, isScalar, elementWidth, bytes, typeSize, isFloat, isUnsigned, elementSize, elfSize, operandSize}
 use Rattle.ir.specs.Function.{binaryOp}
 use Rattle.x86.specs.declared.register.Register.{Register}
 use Rattle.x86.specs.declared.enums.Size.{Size}
@@ -26,7 +28,7 @@ use Rattle.codegen.specs.Arithmetic.{simpleOperation, twoLoads, dividing, divis
 use Rattle.codegen.specs.Generation.{generateInstr}
 use Rattle.utils.specs.Answers.{counted}
 use Rattle.layout.proofs.Passed.{apart}
-use Rattle.integers.specs.Integers.{isInteger, isIntegerVar, isIntegerOperand, binaryCount, quickCount, slotOf, operandOf}
+use Rattle.integers.specs.Integers.{isInteger, isIntegerVar, isIntegerOperand, binaryCount, quickCount, slotOf, operandOf, valueSize, valueUnsigned, copyList, simpleList, comparedList, branchList, binaryList, openList, quickList}
 
 -- both of two tests
 first : (a b : Bool) → (a && b) ≡ true → a ≡ true
@@ -135,7 +137,7 @@ loaded ctx reg (IrOp.Address v) size h = value-loaded ctx reg (IrOp.Address v) s
 loaded ctx reg (IrOp.DataAddress k) size h = no-string _ k h
 loaded ctx reg IrOp.Null size h = value-loaded ctx reg IrOp.Null size h
 
--- the kind of an integer operand, and the size of a move of its value
+-- the kind of an integer operand
 abbrev kindOf : IrOp → Kind
 kindOf (IrOp.Var v) = kind (elementWidth (v .ty .code)) false (isUnsigned (v .ty))
 kindOf (IrOp.Int n short unsigned) = kind (cond short 4 8) false unsigned
@@ -144,15 +146,6 @@ kindOf (IrOp.Bool b) = kind 1 false true
 kindOf (IrOp.Address v) = kind 8 false true
 kindOf (IrOp.DataAddress k) = kind 8 false true
 kindOf IrOp.Null = kind 8 false true
-
-abbrev sizeOf : IrOp → Size
-sizeOf (IrOp.Var v) = elfSize (v .ty)
-sizeOf (IrOp.Int n short unsigned) = cond short Size.U32 Size.U64
-sizeOf (IrOp.Float k) = Size.U64
-sizeOf (IrOp.Bool b) = Size.U8
-sizeOf (IrOp.Address v) = Size.U64
-sizeOf (IrOp.DataAddress k) = Size.U64
-sizeOf IrOp.Null = Size.U64
 
 kind-known : (ctx : Context) (x : IrOp) → isIntegerOperand (length (ctx .offsets)) x ≡ true → operandKind ctx x ≡ ok (kindOf x)
 unfolding isIntegerOperand operandKind typeSize bytes isIntegerVar
@@ -166,8 +159,8 @@ kind-known ctx (IrOp.Address v) h = apart (sym h)
 kind-known ctx (IrOp.DataAddress k) h = apart (sym h)
 kind-known ctx IrOp.Null h = refl
 
-size-known : (n : ℕ) (x : IrOp) → isIntegerOperand n x ≡ true → sizeFrom (kindOf x .size) ≡ ok (sizeOf x)
-unfolding isIntegerOperand isIntegerVar elfSize sizeFrom
+size-known : (n : ℕ) (x : IrOp) → isIntegerOperand n x ≡ true → sizeFrom (kindOf x .size) ≡ ok (valueSize x)
+unfolding isIntegerOperand isIntegerVar elfSize sizeFrom valueSize
 size-known n (IrOp.Var v) h =
     let t = second (ltb (v .id) n) _ h in
     rw (first (isScalar (v .ty)) _ t) (size-of-code (v .ty .code) (second (isScalar (v .ty)) _ t))
@@ -225,7 +218,7 @@ compared-counted ctx d l r size cc hd hl hr = rw (loaded ctx RAX l size hl, load
 comparison-counted : (ctx : Context) (d : VarId) (l r : IrOp) (cc : ConditionCode) → Var ctx d → Op ctx l → Op ctx r → counted (comparison ctx d l r cc) ≡ ok 5
 unfolding comparison
 comparison-counted ctx d l r cc hd hl hr =
-    rw (kind-known ctx l hl, size-known _ l hl, kind-integral 0 l) (compared-counted ctx d l r (sizeOf l) _ hd hl hr)
+    rw (kind-known ctx l hl, size-known _ l hl, kind-integral 0 l) (compared-counted ctx d l r (valueSize l) _ hd hl hr)
 
 divided : (ctx : Context) (d : VarId) (l r : IrOp) (result : Register) → Var ctx d → Op ctx l → Op ctx r → counted (division ctx d l r result) ≡ ok 5
 unfolding division
@@ -294,3 +287,128 @@ quick-counted ctx labels ret (Instr.Return x) args h =
     let e = holds (isIntegerOperand (length (ctx .offsets)) x) 4 h in
     rw (e, loaded ctx (cond (isFloat ret) (xmm 0) RAX) x Size.NoSize e)
 quick-counted ctx labels ret Instr.Comment args h = absurd (h refl)
+
+-- ---- the lists themselves
+
+-- a size that is given stands
+size-stands : (code : ℕ) (z : Size) → isInteger code ≡ true → sizeOr (elementSize (elementWidth code)) z ≡ elementSize (elementWidth code)
+unfolding isInteger elementWidth
+size-stands zero z h = apart (sym h)
+size-stands (suc zero) z h = refl
+size-stands (suc (suc zero)) z h = refl
+size-stands (suc (suc (suc zero))) z h = refl
+size-stands (suc (suc (suc (suc zero)))) z h = refl
+size-stands (suc (suc (suc (suc (suc zero))))) z h = apart (sym h)
+size-stands (suc (suc (suc (suc (suc (suc zero)))))) z h = apart (sym h)
+size-stands (suc (suc (suc (suc (suc (suc (suc zero))))))) z h = refl
+size-stands (suc (suc (suc (suc (suc (suc (suc (suc zero)))))))) z h = refl
+size-stands (suc (suc (suc (suc (suc (suc (suc (suc (suc zero))))))))) z h = refl
+size-stands (suc (suc (suc (suc (suc (suc (suc (suc (suc (suc zero)))))))))) z h = refl
+size-stands (suc (suc (suc (suc (suc (suc (suc (suc (suc (suc (suc n))))))))))) z h = apart (sym h)
+
+var-stands : (n : ℕ) (v : VarId) (z : Size) → isIntegerVar n v ≡ true → sizeOr (elfSize (v .ty)) z ≡ elfSize (v .ty)
+unfolding isIntegerVar elfSize
+var-stands n v z h =
+    let t = second (ltb (v .id) n) _ h in
+    rw (first (isScalar (v .ty)) _ t) (size-stands (v .ty .code) z (second (isScalar (v .ty)) _ t))
+
+value-stands : (n : ℕ) (x : IrOp) (z : Size) → isIntegerOperand n x ≡ true → sizeOr (valueSize x) z ≡ valueSize x
+unfolding isIntegerOperand valueSize
+value-stands n (IrOp.Var v) z h = var-stands n v z h
+value-stands n (IrOp.Int v true unsigned) z h = refl
+value-stands n (IrOp.Int v false unsigned) z h = refl
+value-stands n (IrOp.Float k) z h = apart (sym h)
+value-stands n (IrOp.Bool b) z h = refl
+value-stands n (IrOp.Address v) z h = apart (sym h)
+value-stands n (IrOp.DataAddress k) z h = apart (sym h)
+value-stands n IrOp.Null z h = refl
+
+kind-unsigned : (x : IrOp) → kindOf x .unsigned ≡ valueUnsigned x
+unfolding valueUnsigned
+kind-unsigned (IrOp.Var v) = refl
+kind-unsigned (IrOp.Int v short unsigned) = refl
+kind-unsigned (IrOp.Float k) = refl
+kind-unsigned (IrOp.Bool b) = refl
+kind-unsigned (IrOp.Address v) = refl
+kind-unsigned (IrOp.DataAddress k) = refl
+kind-unsigned IrOp.Null = refl
+
+copy-made : (ctx : Context) (d : VarId) (x : IrOp) → Var ctx d → Op ctx x → generateCopy ctx d x ≡ ok (copyList (ctx .offsets) d x)
+unfolding generateCopy copyList
+copy-made ctx d x hd hx = rw (slotted ctx d hd, sized _ d hd, loaded ctx RAX x (elfSize (d .ty)) hx, var-stands _ d (operandSize x) hd)
+
+simple-made : (ctx : Context) (d : VarId) (l r : IrOp) (op : BinOp) → Var ctx d → Op ctx l → Op ctx r → simpleOperation ctx d l r op ≡ ok (simpleList (ctx .offsets) d l r op)
+unfolding simpleOperation simpleList
+simple-made ctx d l r op hd hl hr = rw (sized _ d hd, loaded ctx RAX l (elfSize (d .ty)) hl, placed ctx r hr, slotted ctx d hd, var-stands _ d (operandSize l) hd)
+
+compared-made : (ctx : Context) (d : VarId) (l r : IrOp) (cc : ConditionCode) → Var ctx d → Op ctx l → Op ctx r → comparison ctx d l r cc ≡ ok (comparedList (ctx .offsets) d l r cc)
+unfolding comparison compared comparedList
+compared-made ctx d l r cc hd hl hr =
+    rw (
+      kind-known ctx l hl,
+      size-known _ l hl,
+      kind-integral 0 l,
+      kind-unsigned l,
+      loaded ctx RAX l (valueSize l) hl,
+      loaded ctx RCX r (valueSize l) hr,
+      slotted ctx d hd,
+      sized _ d hd,
+      value-stands _ l (operandSize l) hl,
+      value-stands _ l (operandSize r) hl,
+    )
+
+abbrev pub Some : List Instruction → Type 0
+Some is = length is ≡ 0 → ⊥
+
+binary-made : (ctx : Context) (d : VarId) (l r : IrOp) (op : ℕ) → Var ctx d → Op ctx l → Op ctx r → Some (binaryList (ctx .offsets) d op l r)
+    → integerBinary ctx d (binaryOp op) l r ≡ ok (binaryList (ctx .offsets) d op l r)
+unfolding binaryOp binaryList
+binary-made ctx d l r zero hd hl hr h = absurd (h refl)
+binary-made ctx d l r (suc zero) hd hl hr h = absurd (h refl)
+binary-made ctx d l r (suc (suc zero)) hd hl hr h = simple-made ctx d l r BinOp.Or hd hl hr
+binary-made ctx d l r (suc (suc (suc zero))) hd hl hr h = simple-made ctx d l r BinOp.Xor hd hl hr
+binary-made ctx d l r (suc (suc (suc (suc zero)))) hd hl hr h = simple-made ctx d l r BinOp.And hd hl hr
+binary-made ctx d l r (suc (suc (suc (suc (suc zero))))) hd hl hr h = compared-made ctx d l r ConditionCode.E hd hl hr
+binary-made ctx d l r (suc (suc (suc (suc (suc (suc zero)))))) hd hl hr h = compared-made ctx d l r ConditionCode.NE hd hl hr
+binary-made ctx d l r (suc (suc (suc (suc (suc (suc (suc zero))))))) hd hl hr h = compared-made ctx d l r ConditionCode.L hd hl hr
+binary-made ctx d l r (suc (suc (suc (suc (suc (suc (suc (suc zero)))))))) hd hl hr h = compared-made ctx d l r ConditionCode.LE hd hl hr
+binary-made ctx d l r (suc (suc (suc (suc (suc (suc (suc (suc (suc zero))))))))) hd hl hr h = compared-made ctx d l r ConditionCode.G hd hl hr
+binary-made ctx d l r (suc (suc (suc (suc (suc (suc (suc (suc (suc (suc zero)))))))))) hd hl hr h = compared-made ctx d l r ConditionCode.GE hd hl hr
+binary-made ctx d l r (suc (suc (suc (suc (suc (suc (suc (suc (suc (suc (suc zero))))))))))) hd hl hr h = absurd (h refl)
+binary-made ctx d l r (suc (suc (suc (suc (suc (suc (suc (suc (suc (suc (suc (suc zero)))))))))))) hd hl hr h = absurd (h refl)
+binary-made ctx d l r (suc (suc (suc (suc (suc (suc (suc (suc (suc (suc (suc (suc (suc zero))))))))))))) hd hl hr h = simple-made ctx d l r BinOp.Add hd hl hr
+binary-made ctx d l r (suc (suc (suc (suc (suc (suc (suc (suc (suc (suc (suc (suc (suc (suc zero)))))))))))))) hd hl hr h = simple-made ctx d l r BinOp.Sub hd hl hr
+binary-made ctx d l r (suc (suc (suc (suc (suc (suc (suc (suc (suc (suc (suc (suc (suc (suc (suc n))))))))))))))) hd hl hr h = absurd (h refl)
+
+open-made : (ctx : Context) (labels : ℕ) (ret : IrType) (i : Instr) (args : List IrOp) → (quickCount (length (ctx .offsets)) labels i ≡ 0 → ⊥) → Some (openList (ctx .offsets) i)
+    → generateInstr ctx labels ret i args ≡ ok (openList (ctx .offsets) i)
+unfolding quickCount generateInstr generateBinary generateLabel generateJump generateJmpIfNot labelAt openList branchList
+open-made ctx labels ret (Instr.Copy d x) args h k =
+    let e = holds (isIntegerVar (length (ctx .offsets)) d && isIntegerOperand (length (ctx .offsets)) x) 2 h in
+    copy-made ctx d x (first _ _ e) (second (isIntegerVar (length (ctx .offsets)) d) _ e)
+open-made ctx labels ret (Instr.Unary d op x) args h k = absurd (k refl)
+open-made ctx labels ret (Instr.Binary d op l r) args h k =
+    let e = holds (isIntegerVar (length (ctx .offsets)) d && (isIntegerOperand (length (ctx .offsets)) l && isIntegerOperand (length (ctx .offsets)) r)) (binaryCount op) h in
+    let f = second (isIntegerVar (length (ctx .offsets)) d) _ e in
+    rw (integral _ d (first _ _ e)) (binary-made ctx d l r op (first _ _ e) (first _ _ f) (second (isIntegerOperand (length (ctx .offsets)) l) _ f) k)
+open-made ctx labels ret (Instr.Cast d x) args h k = absurd (k refl)
+open-made ctx labels ret (Instr.Zero d) args h k = absurd (k refl)
+open-made ctx labels ret (Instr.Call d symbol count) args h k = absurd (k refl)
+open-made ctx labels ret (Instr.Label l) args h k = rw (holds (ltb l labels) 1 h)
+open-made ctx labels ret (Instr.Jump l) args h k = rw (holds (ltb l labels) 1 h)
+open-made ctx labels ret (Instr.JumpIfNot x l) args h k =
+    let e = holds (isIntegerOperand (length (ctx .offsets)) x && ltb l labels) 3 h in
+    rw (loaded ctx RAX x Size.U8 (first _ _ e), second (isIntegerOperand (length (ctx .offsets)) x) _ e)
+open-made ctx labels ret (Instr.Return x) args h k = absurd (k refl)
+open-made ctx labels ret Instr.Comment args h k = absurd (k refl)
+
+-- a list that is not empty is the list maker's
+pub quick-made : (ctx : Context) (labels : ℕ) (ret : IrType) (i : Instr) (args : List IrOp) → Some (quickList (ctx .offsets) labels i)
+    → generateInstr ctx labels ret i args ≡ ok (quickList (ctx .offsets) labels i)
+unfolding quickList
+quick-made ctx labels ret i args h = go (eqb (quickCount (length (ctx .offsets)) labels i) 0) refl
+  where
+    go : (b : Bool) → eqb (quickCount (length (ctx .offsets)) labels i) 0 ≡ b → generateInstr ctx labels ret i args ≡ ok (cond (eqb (quickCount (length (ctx .offsets)) labels i) 0) [] (openList (ctx .offsets) i))
+    go true e = absurd (h (rw (e)))
+    go false e =
+        rw (e) (open-made ctx labels ret i args (λ z. apart (sym (eq-eqb (quickCount (length (ctx .offsets)) labels i) 0 z) ∙ e)) (λ z. h (rw (e) z)))

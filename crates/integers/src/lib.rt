@@ -1,7 +1,7 @@
 // The short way for instructions on integer variables and constants, which are most of a rule: the number of their records, found on the sheet's cells
 // with no record made. Any other instruction is left to the list makers, and so is one that they refuse.
 mod cellwise;
-mod lists;
+pub mod lists;
 
 use cells::cell_at;
 ghost use mathlib.Core.Path.{_≡_};
@@ -95,7 +95,10 @@ fn count_binary(offsets: &[u64], s: &[u8], k: usize, labels: u64) -> u64
     let dest = is_integer_var(offsets, s, k + 2);
     let left = is_integer_operand(offsets, s, k + 5);
     let right = is_integer_operand(offsets, s, k + 9);
-    count_if(both(dest, both(left, right)), binary_count(cell_at(s, k + 1)))
+    count_if(
+        both(dest, both(left, right)),
+        binary_count(cell_at(s, k + 1)),
+    )
 }
 
 fn count_branch(offsets: &[u64], s: &[u8], k: usize, labels: u64) -> u64

@@ -1,5 +1,4 @@
 // The lists of instructions on integers, written from their cells into the lent slice.
-use cells::cell_at;
 use crate::cellwise::compare;
 use crate::cellwise::label_record;
 use crate::cellwise::load;
@@ -10,6 +9,7 @@ use crate::cellwise::store;
 use crate::cellwise::value_size;
 use crate::cellwise::zero_test;
 use crate::count_instr;
+use cells::cell_at;
 use records::put_five;
 use records::put_three;
 use records::put_two;
@@ -51,7 +51,14 @@ fn put_simple(offsets: &[u64], s: &[u8], k: usize, op: BinOp, out: &mut [u8], at
 }
 
 // `mov rax, left ; mov rcx, right ; cmp rax, rcx ; setcc al ; mov [dest], al`
-fn put_compared(offsets: &[u64], s: &[u8], k: usize, cc: ConditionCode, out: &mut [u8], at: usize) -> u64
+fn put_compared(
+    offsets: &[u64],
+    s: &[u8],
+    k: usize,
+    cc: ConditionCode,
+    out: &mut [u8],
+    at: usize,
+) -> u64
     requires { ⌜ k + 13 ≤ cells (now s) ⌝ }
     requires { ⌜ at + 320 ≤ length (now out) ⌝ }
     ensures { λ r. ⌜ r ≡ 5 ⌝ }

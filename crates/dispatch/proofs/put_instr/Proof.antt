@@ -1,12 +1,13 @@
 use Prim.Native.Nat.{_+_}
 use mathlib.Core.Path.{sym, ap, _∙_}
+use lib.ListN.{length}
 use Rattle.ir.specs.Types.{ok}
 use Rattle.ir.specs.Function.{instrAt, operandsAt, argumentsAt}
 use Rattle.codegen.specs.Generation.{generateInstr}
 use Rattle.utils.specs.Answers.{lent}
 use Rattle.integers.proofs.Quick.{quick-counted}
 use Rattle.dispatch.proofs.Calls.{thirteen}
-use Rattle.dispatch.proofs.Counts.{only-counted}
+use Rattle.dispatch.proofs.Counts.{only-counted, five-fit}
 use borrow.Author.Needs.{needs}
 use Rattle.dispatch.proofs.put_instr.Statement.{statement}
 use Rattle.dispatch.proofs.put_instr.Tie as tie
@@ -28,7 +29,7 @@ returns c =
     (quick-counted l (a .labels) (a .ret) (instrAt s (a .k)) _ (λ z. c .if2 .taken (q ∙ z)) ∙ ap ok (sym q))
 
 put-made-requires : tie.Need-put-made-requires
-put-made-requires c κs = c .before .before .before .before .before .before .before .pre
+put-made-requires c κs = c .before .before .before .before .before .before .before .before .before .pre
 
 same-length : tie.Need-same-length
 same-length c = search needs
@@ -36,5 +37,25 @@ same-length c = search needs
 returns-2 : tie.Need-returns-2
 returns-2 c = c .before .before .put-made .ensures
 
+put-made-requires-2 : tie.Need-put-made-requires-2
+put-made-requires-2 c κs = c .before .before .before .before .before .before .before .before .pre
+
+same-length-2 : tie.Need-same-length-2
+same-length-2 c = search needs
+
+returns-3 : tie.Need-returns-3
+returns-3 c = c .before .before .put-made2 .ensures
+
+put-quickly-requires : tie.Need-put-quickly-requires
+put-quickly-requires c κs =
+    let p = c .before .before .before .before .before .before .before .before .pre in
+    (p .0, (p .1 .0, (p .1 .1, five-fit (length (c .before .before .before .before .before .before .before .before .args .out .now)) (c .before .before .before .before .before .before .before .before .args .at) (rw (← c .before .before .before .room .ensures) (c .before .if3 .left)))))
+
+same-length-3 : tie.Need-same-length-3
+same-length-3 c = search needs
+
+returns-4 : tie.Need-returns-4
+returns-4 c = c .before .before .put-quickly .ensures
+
 pub put-instr-spec : {M : Type 1} → statement M
-put-instr-spec = tie.close (tie.spec room-requires count-instr-requires returns put-made-requires same-length returns-2)
+put-instr-spec = tie.close (tie.spec room-requires count-instr-requires returns put-made-requires same-length returns-2 put-made-requires-2 same-length-2 returns-3 put-quickly-requires same-length-3 returns-4)

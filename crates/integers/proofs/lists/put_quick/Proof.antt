@@ -67,7 +67,7 @@ same-length-2 : tie.Need-same-length-2
 same-length-2 c = search needs
 
 returns-3 : tie.Need-returns-3
-unfolding openList 
+unfolding openList
 returns-3 c =
     let a = c .before .before .before .before .before .before .before .before .before .before .before .args in
     let q = as-open (a .offsets .now) (a .labels) (a .s .now) (a .k) (binaryAt (a .s .now) (a .k)) (λ z. c .before .before .before .before .before .before .if1 .left (c .before .before .before .before .before .before .before .count-instr .ensures ∙ z)) (is-2 (a .s .now) (a .k) (sym (c .before .before .before .before .before .cell-at .ensures) ∙ c .before .before .before .before .match .keys2)) in
@@ -78,7 +78,7 @@ same-length-3 : tie.Need-same-length-3
 same-length-3 c = search needs
 
 returns-4 : tie.Need-returns-4
-unfolding openList 
+unfolding openList
 returns-4 c =
     let a = c .before .before .before .before .before .before .before .before .before .before .before .before .args in
     let q = as-open (a .offsets .now) (a .labels) (a .s .now) (a .k) (labelAt (a .s .now) (a .k)) (λ z. c .before .before .before .before .before .before .before .if1 .left (c .before .before .before .before .before .before .before .before .count-instr .ensures ∙ z)) (is-6 (a .s .now) (a .k) (sym (c .before .before .before .before .before .before .cell-at .ensures) ∙ c .before .before .before .before .before .match .keys3)) in
@@ -89,7 +89,7 @@ same-length-4 : tie.Need-same-length-4
 same-length-4 c = search needs
 
 returns-5 : tie.Need-returns-5
-unfolding openList 
+unfolding openList
 returns-5 c =
     let a = c .before .before .before .before .before .before .before .before .before .before .before .before .args in
     let q = as-open (a .offsets .now) (a .labels) (a .s .now) (a .k) (jumpAt (a .s .now) (a .k)) (λ z. c .before .before .before .before .before .before .before .if1 .left (c .before .before .before .before .before .before .before .before .count-instr .ensures ∙ z)) (is-7 (a .s .now) (a .k) (sym (c .before .before .before .before .before .before .cell-at .ensures) ∙ c .before .before .before .before .before .match .keys4)) in
