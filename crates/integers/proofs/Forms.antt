@@ -9,6 +9,8 @@ use lib.ListN.{getD, length}
 use Rattle.cells.specs.Cells.{cellAt, minus}
 use Rattle.ir.specs.declared.Operand.{Operand as IrOp}
 use Rattle.ir.specs.Function.{varOperand, intOperand, floatOperand, boolOperand, addressOperand, dataOperand, operandAt}
+use Rattle.ir.specs.declared.UnaryOp.{UnaryOp as IrUnary}
+use Rattle.ir.specs.Function.{unaryOp}
 use Rattle.x86.specs.declared.enums.Size.{Size}
 use Rattle.x86.specs.declared.enums.Operand.{Operand}
 use Rattle.x86.specs.declared.enums.ConditionCode.{ConditionCode}
@@ -153,3 +155,10 @@ unsigned-number ConditionCode.NP n e h2 h3 h4 h5 = e
 pub unsigned-is : (cc : ConditionCode) (n m : ℕ) → n ≡ conditionCode cc → m ≡ conditionCode (getD unsignedCodes n cc) → m ≡ conditionCode (unsignedCode cc)
 unfolding unsignedCode
 unsigned-is cc n m e f = f ∙ ap (λ k. conditionCode (getD unsignedCodes k cc)) e
+
+-- the last of the unary operations
+pub last-unary : (op : ℕ) → (op ≡ 0 → ⊥) → (op ≡ 1 → ⊥) → unaryOp op ≡ IrUnary.Not
+unfolding unaryOp
+last-unary zero h0 h1 = absurd (h0 refl)
+last-unary (suc zero) h0 h1 = absurd (h1 refl)
+last-unary (suc (suc n)) h0 h1 = refl

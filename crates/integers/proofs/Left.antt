@@ -11,30 +11,32 @@ use Rattle.ir.specs.Function.{copyAt, unaryAt, binaryAt, castAt, zeroAt, callAt
 use Rattle.x86.specs.declared.enums.Operand.{Operand}
 use Rattle.x86.specs.declared.enums.CtrlOp.{CtrlOp}
 use Rattle.x86.specs.declared.enums.Instruction.{Instruction}
-use Rattle.x86.specs.Records.{listBytes, recordBytes, cellsRecord, recordOf}
+use Rattle.x86.specs.Records.{listBytes, recordBytes, cellsRecord, recordOf, shiftCode}
+use Rattle.x86.specs.declared.enums.ShiftOp.{ShiftOp}
 use borrow.Author.Tests.{ne-eqb}
 use Rattle.records.specs.Records.{bytesOfRecords}
 use Rattle.records.proofs.Written.{nothing}
-use Rattle.integers.specs.Integers.{binaryList, openList, quickCount, quickList}
+use Rattle.integers.specs.Integers.{binaryList, openList, quickCount, quickList, pairRecords, shiftList, productList}
 
-pub no-list : (offsets : List ℕ) (d : VarId) (l r : IrOp) (op : ℕ) → (op ≡ 2 → ⊥) → (op ≡ 3 → ⊥) → (op ≡ 4 → ⊥) → (op ≡ 5 → ⊥) → (op ≡ 6 → ⊥) → (op ≡ 7 → ⊥) → (op ≡ 8 → ⊥) → (op ≡ 9 → ⊥) → (op ≡ 10 → ⊥) → (op ≡ 13 → ⊥) → (op ≡ 14 → ⊥) → binaryList offsets d op l r ≡ []
+pub no-list : (offsets : List ℕ) (d : VarId) (l r : IrOp) (op : ℕ) → (op ≡ 2 → ⊥) → (op ≡ 3 → ⊥) → (op ≡ 4 → ⊥) → (op ≡ 5 → ⊥) → (op ≡ 6 → ⊥) → (op ≡ 7 → ⊥) → (op ≡ 8 → ⊥) → (op ≡ 9 → ⊥) → (op ≡ 10 → ⊥) → (op ≡ 11 → ⊥) → (op ≡ 12 → ⊥) → (op ≡ 13 → ⊥) → (op ≡ 14 → ⊥) → (op ≡ 15 → ⊥) → binaryList offsets d op l r ≡ []
 unfolding binaryList
-no-list offsets d l r zero h2 h3 h4 h5 h6 h7 h8 h9 h10 h13 h14 = refl
-no-list offsets d l r (suc zero) h2 h3 h4 h5 h6 h7 h8 h9 h10 h13 h14 = refl
-no-list offsets d l r (suc (suc zero)) h2 h3 h4 h5 h6 h7 h8 h9 h10 h13 h14 = absurd (h2 refl)
-no-list offsets d l r (suc (suc (suc zero))) h2 h3 h4 h5 h6 h7 h8 h9 h10 h13 h14 = absurd (h3 refl)
-no-list offsets d l r (suc (suc (suc (suc zero)))) h2 h3 h4 h5 h6 h7 h8 h9 h10 h13 h14 = absurd (h4 refl)
-no-list offsets d l r (suc (suc (suc (suc (suc zero))))) h2 h3 h4 h5 h6 h7 h8 h9 h10 h13 h14 = absurd (h5 refl)
-no-list offsets d l r (suc (suc (suc (suc (suc (suc zero)))))) h2 h3 h4 h5 h6 h7 h8 h9 h10 h13 h14 = absurd (h6 refl)
-no-list offsets d l r (suc (suc (suc (suc (suc (suc (suc zero))))))) h2 h3 h4 h5 h6 h7 h8 h9 h10 h13 h14 = absurd (h7 refl)
-no-list offsets d l r (suc (suc (suc (suc (suc (suc (suc (suc zero)))))))) h2 h3 h4 h5 h6 h7 h8 h9 h10 h13 h14 = absurd (h8 refl)
-no-list offsets d l r (suc (suc (suc (suc (suc (suc (suc (suc (suc zero))))))))) h2 h3 h4 h5 h6 h7 h8 h9 h10 h13 h14 = absurd (h9 refl)
-no-list offsets d l r (suc (suc (suc (suc (suc (suc (suc (suc (suc (suc zero)))))))))) h2 h3 h4 h5 h6 h7 h8 h9 h10 h13 h14 = absurd (h10 refl)
-no-list offsets d l r (suc (suc (suc (suc (suc (suc (suc (suc (suc (suc (suc zero))))))))))) h2 h3 h4 h5 h6 h7 h8 h9 h10 h13 h14 = refl
-no-list offsets d l r (suc (suc (suc (suc (suc (suc (suc (suc (suc (suc (suc (suc zero)))))))))))) h2 h3 h4 h5 h6 h7 h8 h9 h10 h13 h14 = refl
-no-list offsets d l r (suc (suc (suc (suc (suc (suc (suc (suc (suc (suc (suc (suc (suc zero))))))))))))) h2 h3 h4 h5 h6 h7 h8 h9 h10 h13 h14 = absurd (h13 refl)
-no-list offsets d l r (suc (suc (suc (suc (suc (suc (suc (suc (suc (suc (suc (suc (suc (suc zero)))))))))))))) h2 h3 h4 h5 h6 h7 h8 h9 h10 h13 h14 = absurd (h14 refl)
-no-list offsets d l r (suc (suc (suc (suc (suc (suc (suc (suc (suc (suc (suc (suc (suc (suc (suc n))))))))))))))) h2 h3 h4 h5 h6 h7 h8 h9 h10 h13 h14 = refl
+no-list offsets d l r zero h2 h3 h4 h5 h6 h7 h8 h9 h10 h11 h12 h13 h14 h15 = refl
+no-list offsets d l r (suc zero) h2 h3 h4 h5 h6 h7 h8 h9 h10 h11 h12 h13 h14 h15 = refl
+no-list offsets d l r (suc (suc zero)) h2 h3 h4 h5 h6 h7 h8 h9 h10 h11 h12 h13 h14 h15 = absurd (h2 refl)
+no-list offsets d l r (suc (suc (suc zero))) h2 h3 h4 h5 h6 h7 h8 h9 h10 h11 h12 h13 h14 h15 = absurd (h3 refl)
+no-list offsets d l r (suc (suc (suc (suc zero)))) h2 h3 h4 h5 h6 h7 h8 h9 h10 h11 h12 h13 h14 h15 = absurd (h4 refl)
+no-list offsets d l r (suc (suc (suc (suc (suc zero))))) h2 h3 h4 h5 h6 h7 h8 h9 h10 h11 h12 h13 h14 h15 = absurd (h5 refl)
+no-list offsets d l r (suc (suc (suc (suc (suc (suc zero)))))) h2 h3 h4 h5 h6 h7 h8 h9 h10 h11 h12 h13 h14 h15 = absurd (h6 refl)
+no-list offsets d l r (suc (suc (suc (suc (suc (suc (suc zero))))))) h2 h3 h4 h5 h6 h7 h8 h9 h10 h11 h12 h13 h14 h15 = absurd (h7 refl)
+no-list offsets d l r (suc (suc (suc (suc (suc (suc (suc (suc zero)))))))) h2 h3 h4 h5 h6 h7 h8 h9 h10 h11 h12 h13 h14 h15 = absurd (h8 refl)
+no-list offsets d l r (suc (suc (suc (suc (suc (suc (suc (suc (suc zero))))))))) h2 h3 h4 h5 h6 h7 h8 h9 h10 h11 h12 h13 h14 h15 = absurd (h9 refl)
+no-list offsets d l r (suc (suc (suc (suc (suc (suc (suc (suc (suc (suc zero)))))))))) h2 h3 h4 h5 h6 h7 h8 h9 h10 h11 h12 h13 h14 h15 = absurd (h10 refl)
+no-list offsets d l r (suc (suc (suc (suc (suc (suc (suc (suc (suc (suc (suc zero))))))))))) h2 h3 h4 h5 h6 h7 h8 h9 h10 h11 h12 h13 h14 h15 = absurd (h11 refl)
+no-list offsets d l r (suc (suc (suc (suc (suc (suc (suc (suc (suc (suc (suc (suc zero)))))))))))) h2 h3 h4 h5 h6 h7 h8 h9 h10 h11 h12 h13 h14 h15 = absurd (h12 refl)
+no-list offsets d l r (suc (suc (suc (suc (suc (suc (suc (suc (suc (suc (suc (suc (suc zero))))))))))))) h2 h3 h4 h5 h6 h7 h8 h9 h10 h11 h12 h13 h14 h15 = absurd (h13 refl)
+no-list offsets d l r (suc (suc (suc (suc (suc (suc (suc (suc (suc (suc (suc (suc (suc (suc zero)))))))))))))) h2 h3 h4 h5 h6 h7 h8 h9 h10 h11 h12 h13 h14 h15 = absurd (h14 refl)
+no-list offsets d l r (suc (suc (suc (suc (suc (suc (suc (suc (suc (suc (suc (suc (suc (suc (suc zero))))))))))))))) h2 h3 h4 h5 h6 h7 h8 h9 h10 h11 h12 h13 h14 h15 = absurd (h15 refl)
+no-list offsets d l r (suc (suc (suc (suc (suc (suc (suc (suc (suc (suc (suc (suc (suc (suc (suc (suc n)))))))))))))))) h2 h3 h4 h5 h6 h7 h8 h9 h10 h11 h12 h13 h14 h15 = refl
 
 -- no record leaves every byte
 pub none-written : (s : List ℕ) (at : ℕ) → s ≡ write s at (listBytes [])
@@ -42,22 +44,22 @@ unfolding listBytes bytesOfRecords
 none-written s at = nothing s at
 
 -- the instructions that are left to their list makers
-pub no-open : (offsets : List ℕ) (s : List ℕ) (k : ℕ) → (cellAt s k ≡ 0 → ⊥) → (cellAt s k ≡ 2 → ⊥) → (cellAt s k ≡ 6 → ⊥) → (cellAt s k ≡ 7 → ⊥) → (cellAt s k ≡ 8 → ⊥) → openList offsets (instrAt s k) ≡ []
+pub no-open : (offsets : List ℕ) (s : List ℕ) (k : ℕ) → (cellAt s k ≡ 0 → ⊥) → (cellAt s k ≡ 1 → ⊥) → (cellAt s k ≡ 2 → ⊥) → (cellAt s k ≡ 6 → ⊥) → (cellAt s k ≡ 7 → ⊥) → (cellAt s k ≡ 8 → ⊥) → openList offsets (instrAt s k) ≡ []
 unfolding instrAt openList
 no-open offsets s k = go (cellAt s k)
   where
-    go : (c : ℕ) → (c ≡ 0 → ⊥) → (c ≡ 2 → ⊥) → (c ≡ 6 → ⊥) → (c ≡ 7 → ⊥) → (c ≡ 8 → ⊥) → openList offsets (getD (copyAt ∷ unaryAt ∷ binaryAt ∷ castAt ∷ zeroAt ∷ callAt ∷ labelAt ∷ jumpAt ∷ jumpIfNotAt ∷ returnAt ∷ []) c (λ s k. Instr.Comment) s k) ≡ []
-    go zero h0 h2 h6 h7 h8 = absurd (h0 refl)
-    go (suc zero) h0 h2 h6 h7 h8 = refl
-    go (suc (suc zero)) h0 h2 h6 h7 h8 = absurd (h2 refl)
-    go (suc (suc (suc zero))) h0 h2 h6 h7 h8 = refl
-    go (suc (suc (suc (suc zero)))) h0 h2 h6 h7 h8 = refl
-    go (suc (suc (suc (suc (suc zero))))) h0 h2 h6 h7 h8 = refl
-    go (suc (suc (suc (suc (suc (suc zero)))))) h0 h2 h6 h7 h8 = absurd (h6 refl)
-    go (suc (suc (suc (suc (suc (suc (suc zero))))))) h0 h2 h6 h7 h8 = absurd (h7 refl)
-    go (suc (suc (suc (suc (suc (suc (suc (suc zero)))))))) h0 h2 h6 h7 h8 = absurd (h8 refl)
-    go (suc (suc (suc (suc (suc (suc (suc (suc (suc zero))))))))) h0 h2 h6 h7 h8 = refl
-    go (suc (suc (suc (suc (suc (suc (suc (suc (suc (suc n)))))))))) h0 h2 h6 h7 h8 = refl
+    go : (c : ℕ) → (c ≡ 0 → ⊥) → (c ≡ 1 → ⊥) → (c ≡ 2 → ⊥) → (c ≡ 6 → ⊥) → (c ≡ 7 → ⊥) → (c ≡ 8 → ⊥) → openList offsets (getD (copyAt ∷ unaryAt ∷ binaryAt ∷ castAt ∷ zeroAt ∷ callAt ∷ labelAt ∷ jumpAt ∷ jumpIfNotAt ∷ returnAt ∷ []) c (λ s k. Instr.Comment) s k) ≡ []
+    go zero h0 h1 h2 h6 h7 h8 = absurd (h0 refl)
+    go (suc zero) h0 h1 h2 h6 h7 h8 = absurd (h1 refl)
+    go (suc (suc zero)) h0 h1 h2 h6 h7 h8 = absurd (h2 refl)
+    go (suc (suc (suc zero))) h0 h1 h2 h6 h7 h8 = refl
+    go (suc (suc (suc (suc zero)))) h0 h1 h2 h6 h7 h8 = refl
+    go (suc (suc (suc (suc (suc zero))))) h0 h1 h2 h6 h7 h8 = refl
+    go (suc (suc (suc (suc (suc (suc zero)))))) h0 h1 h2 h6 h7 h8 = absurd (h6 refl)
+    go (suc (suc (suc (suc (suc (suc (suc zero))))))) h0 h1 h2 h6 h7 h8 = absurd (h7 refl)
+    go (suc (suc (suc (suc (suc (suc (suc (suc zero)))))))) h0 h1 h2 h6 h7 h8 = absurd (h8 refl)
+    go (suc (suc (suc (suc (suc (suc (suc (suc (suc zero))))))))) h0 h1 h2 h6 h7 h8 = refl
+    go (suc (suc (suc (suc (suc (suc (suc (suc (suc (suc n)))))))))) h0 h1 h2 h6 h7 h8 = refl
 
 -- ---- the list of an instruction, by its kind
 
@@ -69,6 +71,10 @@ as-open offsets labels s k i h e = rw (ne-eqb (quickCount (length offsets) label
 pub is-0 : (s : List ℕ) (k : ℕ) → cellAt s k ≡ 0 → instrAt s k ≡ copyAt s k
 unfolding instrAt
 is-0 s k e = rw (e)
+
+pub is-1 : (s : List ℕ) (k : ℕ) → cellAt s k ≡ 1 → instrAt s k ≡ unaryAt s k
+unfolding instrAt
+is-1 s k e = rw (e)
 
 pub is-2 : (s : List ℕ) (k : ℕ) → cellAt s k ≡ 2 → instrAt s k ≡ binaryAt s k
 unfolding instrAt
@@ -85,6 +91,15 @@ is-7 s k e = rw (e)
 pub is-8 : (s : List ℕ) (k : ℕ) → cellAt s k ≡ 8 → instrAt s k ≡ jumpIfNotAt s k
 unfolding instrAt
 is-8 s k e = rw (e)
+
+-- the bytes of a pair's records
+pub shift-bytes : (offsets : List ℕ) (d : VarId) (l r : IrOp) (op : ShiftOp) → bytesOfRecords (pairRecords offsets d l r 13 (shiftCode op)) ≡ listBytes (shiftList offsets d l r op)
+unfolding bytesOfRecords listBytes pairRecords shiftList recordOf
+shift-bytes offsets d l r op = refl
+
+pub product-bytes : (offsets : List ℕ) (d : VarId) (l r : IrOp) → bytesOfRecords (pairRecords offsets d l r 4 4) ≡ listBytes (productList offsets d l r)
+unfolding bytesOfRecords listBytes pairRecords productList recordOf
+product-bytes offsets d l r = refl
 
 -- the bytes of one record
 pub label-bytes : (l : ℕ) → recordBytes (cellsRecord 9 0 4 l 0 0 0 0) ≡ listBytes (Instruction.Label l ∷ [])

@@ -19,6 +19,7 @@ use Rattle.x86.specs.declared.enums.Size.{Size}
 use Rattle.x86.specs.declared.enums.Operand.{Operand}
 use Rattle.x86.specs.declared.enums.BinOp.{BinOp}
 use Rattle.x86.specs.declared.enums.ConditionCode.{ConditionCode}
+use Rattle.x86.specs.declared.enums.ShiftOp.{ShiftOp}
 use Rattle.x86.specs.declared.enums.Instruction.{Instruction}
 use Rattle.x86.specs.Registers.{RAX, RCX, RDX, xmm}
 use Rattle.codegen.specs.Context.{Context, displacement, labelAt}
@@ -28,7 +29,7 @@ use Rattle.codegen.specs.Arithmetic.{simpleOperation, twoLoads, dividing, divis
 use Rattle.codegen.specs.Generation.{generateInstr}
 use Rattle.utils.specs.Answers.{counted}
 use Rattle.layout.proofs.Passed.{apart}
-use Rattle.integers.specs.Integers.{isInteger, isIntegerVar, isIntegerOperand, binaryCount, quickCount, slotOf, operandOf, valueSize, valueUnsigned, copyList, simpleList, comparedList, branchList, binaryList, openList, quickList}
+use Rattle.integers.specs.Integers.{isInteger, isIntegerVar, isIntegerOperand, binaryCount, quickCount, slotOf, operandOf, valueSize, valueUnsigned, copyList, simpleList, comparedList, shiftList, productList, unaryRecord, unaryList, branchList, binaryList, openList, quickList}
 
 -- both of two tests
 first : (a b : Bool) → (a && b) ≡ true → a ≡ true
@@ -357,6 +358,37 @@ compared-made ctx d l r cc hd hl hr =
       value-stands _ l (operandSize r) hl,
     )
 
+shift-made : (ctx : Context) (d : VarId) (l r : IrOp) (op : ShiftOp) → Var ctx d → Op ctx l → Op ctx r → shift ctx d l r op ≡ ok (shiftList (ctx .offsets) d l r op)
+unfolding shift twoLoads shiftList
+shift-made ctx d l r op hd hl hr =
+    rw (
+      sized _ d hd,
+      loaded ctx RAX l (elfSize (d .ty)) hl,
+      loaded ctx RCX r (elfSize (d .ty)) hr,
+      slotted ctx d hd,
+      var-stands _ d (operandSize l) hd,
+      var-stands _ d (operandSize r) hd,
+    )
+
+product-made : (ctx : Context) (d : VarId) (l r : IrOp) → Var ctx d → Op ctx l → Op ctx r → multiplication ctx d l r ≡ ok (productList (ctx .offsets) d l r)
+unfolding multiplication twoLoads productList
+product-made ctx d l r hd hl hr =
+    rw (
+      sized _ d hd,
+      loaded ctx RAX l (elfSize (d .ty)) hl,
+      loaded ctx RCX r (elfSize (d .ty)) hr,
+      slotted ctx d hd,
+      var-stands _ d (operandSize l) hd,
+      var-stands _ d (operandSize r) hd,
+    )
+
+unary-made : (ctx : Context) (d : VarId) (op : IrUnary) (x : IrOp) → Var ctx d → Op ctx x → generateUnary ctx d op x ≡ ok (unaryList (ctx .offsets) d op x)
+unfolding generateUnary unaryList unaryRecord
+unary-made ctx d IrUnary.Neg x hd hx =
+    rw (sized _ d hd, loaded ctx RAX x (elfSize (d .ty)) hx, slotted ctx d hd, integral _ d hd, var-stands _ d (operandSize x) hd)
+unary-made ctx d IrUnary.BitNot x hd hx = rw (sized _ d hd, loaded ctx RAX x (elfSize (d .ty)) hx, slotted ctx d hd, var-stands _ d (operandSize x) hd)
+unary-made ctx d IrUnary.Not x hd hx = rw (sized _ d hd, loaded ctx RAX x (elfSize (d .ty)) hx, slotted ctx d hd, var-stands _ d (operandSize x) hd)
+
 abbrev pub Some : List Instruction → Type 0
 Some is = length is ≡ 0 → ⊥
 
@@ -374,11 +406,12 @@ binary-made ctx d l r (suc (suc (suc (suc (suc (suc (suc zero))))))) hd hl hr h 
 binary-made ctx d l r (suc (suc (suc (suc (suc (suc (suc (suc zero)))))))) hd hl hr h = compared-made ctx d l r ConditionCode.LE hd hl hr
 binary-made ctx d l r (suc (suc (suc (suc (suc (suc (suc (suc (suc zero))))))))) hd hl hr h = compared-made ctx d l r ConditionCode.G hd hl hr
 binary-made ctx d l r (suc (suc (suc (suc (suc (suc (suc (suc (suc (suc zero)))))))))) hd hl hr h = compared-made ctx d l r ConditionCode.GE hd hl hr
-binary-made ctx d l r (suc (suc (suc (suc (suc (suc (suc (suc (suc (suc (suc zero))))))))))) hd hl hr h = absurd (h refl)
-binary-made ctx d l r (suc (suc (suc (suc (suc (suc (suc (suc (suc (suc (suc (suc zero)))))))))))) hd hl hr h = absurd (h refl)
+binary-made ctx d l r (suc (suc (suc (suc (suc (suc (suc (suc (suc (suc (suc zero))))))))))) hd hl hr h = shift-made ctx d l r ShiftOp.Shl hd hl hr
+binary-made ctx d l r (suc (suc (suc (suc (suc (suc (suc (suc (suc (suc (suc (suc zero)))))))))))) hd hl hr h = shift-made ctx d l r (cond (isUnsigned (d .ty)) ShiftOp.Shr ShiftOp.Sar) hd hl hr
 binary-made ctx d l r (suc (suc (suc (suc (suc (suc (suc (suc (suc (suc (suc (suc (suc zero))))))))))))) hd hl hr h = simple-made ctx d l r BinOp.Add hd hl hr
 binary-made ctx d l r (suc (suc (suc (suc (suc (suc (suc (suc (suc (suc (suc (suc (suc (suc zero)))))))))))))) hd hl hr h = simple-made ctx d l r BinOp.Sub hd hl hr
-binary-made ctx d l r (suc (suc (suc (suc (suc (suc (suc (suc (suc (suc (suc (suc (suc (suc (suc n))))))))))))))) hd hl hr h = absurd (h refl)
+binary-made ctx d l r (suc (suc (suc (suc (suc (suc (suc (suc (suc (suc (suc (suc (suc (suc (suc zero))))))))))))))) hd hl hr h = product-made ctx d l r hd hl hr
+binary-made ctx d l r (suc (suc (suc (suc (suc (suc (suc (suc (suc (suc (suc (suc (suc (suc (suc (suc n)))))))))))))))) hd hl hr h = absurd (h refl)
 
 open-made : (ctx : Context) (labels : ℕ) (ret : IrType) (i : Instr) (args : List IrOp) → (quickCount (length (ctx .offsets)) labels i ≡ 0 → ⊥) → Some (openList (ctx .offsets) i)
     → generateInstr ctx labels ret i args ≡ ok (openList (ctx .offsets) i)
@@ -386,7 +419,9 @@ unfolding quickCount generateInstr generateBinary generateLabel generateJump gen
 open-made ctx labels ret (Instr.Copy d x) args h k =
     let e = holds (isIntegerVar (length (ctx .offsets)) d && isIntegerOperand (length (ctx .offsets)) x) 2 h in
     copy-made ctx d x (first _ _ e) (second (isIntegerVar (length (ctx .offsets)) d) _ e)
-open-made ctx labels ret (Instr.Unary d op x) args h k = absurd (k refl)
+open-made ctx labels ret (Instr.Unary d op x) args h k =
+    let e = holds (isIntegerVar (length (ctx .offsets)) d && isIntegerOperand (length (ctx .offsets)) x) 3 h in
+    unary-made ctx d op x (first _ _ e) (second (isIntegerVar (length (ctx .offsets)) d) _ e)
 open-made ctx labels ret (Instr.Binary d op l r) args h k =
     let e = holds (isIntegerVar (length (ctx .offsets)) d && (isIntegerOperand (length (ctx .offsets)) l && isIntegerOperand (length (ctx .offsets)) r)) (binaryCount op) h in
     let f = second (isIntegerVar (length (ctx .offsets)) d) _ e in

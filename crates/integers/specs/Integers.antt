@@ -7,6 +7,7 @@ use lib.ListN.{getD, length}
 use Rattle.cells.specs.Cells.{minus}
 use Rattle.ir.specs.declared.VarId.{VarId}
 use Rattle.ir.specs.declared.Operand.{Operand as IrOp}
+use Rattle.ir.specs.declared.UnaryOp.{UnaryOp}
 use Rattle.ir.specs.declared.Instr.{Instr}
 use Rattle.ir.specs.Types.{isScalar, isUnsigned, elfSize}
 use Rattle.x86.specs.declared.register.Register.{Register}
@@ -14,10 +15,13 @@ use Rattle.x86.specs.declared.enums.Size.{Size}
 use Rattle.x86.specs.declared.enums.Operand.{Operand}
 use Rattle.x86.specs.declared.enums.BinOp.{BinOp}
 use Rattle.x86.specs.declared.enums.CtrlOp.{CtrlOp}
+use Rattle.x86.specs.declared.enums.ShiftOp.{ShiftOp}
+use Rattle.x86.specs.declared.enums.ComplexBinOp.{ComplexBinOp}
+use Rattle.x86.specs.declared.enums.UnaryOp as elf
 use Rattle.x86.specs.declared.enums.ConditionCode.{ConditionCode}
 use Rattle.x86.specs.declared.enums.Instruction.{Instruction}
 use Rattle.x86.specs.Registers.{rbpPlus, RAX, RCX}
-use Rattle.x86.specs.Records.{Record, cellsRecord, sizeCode}
+use Rattle.x86.specs.Records.{Record, cellsRecord, sizeCode, recordOf}
 use Rattle.codegen.specs.Utils.{isOneByte, loadFrom}
 use Rattle.codegen.specs.Instructions.{move}
 use Rattle.codegen.specs.Arithmetic.{unsignedCode}
@@ -113,6 +117,26 @@ comparedList offsets d l r cc =
 unfoldable pub copyList : List ℕ → VarId → IrOp → List Instruction
 copyList offsets d x = load offsets RAX x (elfSize (d .ty)) ∷ store offsets d RAX ∷ []
 
+-- `mov rax, left ; mov rcx, right ; sh rax, cl ; mov [dest], rax`
+unfoldable pub shiftList : List ℕ → VarId → IrOp → IrOp → ShiftOp → List Instruction
+shiftList offsets d l r op =
+    load offsets RAX l (elfSize (d .ty)) ∷ load offsets RCX r (elfSize (d .ty))
+    ∷ Instruction.Shift op (Operand.Reg RAX) (Operand.Reg RCX) (elfSize (d .ty)) ∷ store offsets d RAX ∷ []
+
+unfoldable pub productList : List ℕ → VarId → IrOp → IrOp → List Instruction
+productList offsets d l r =
+    load offsets RAX l (elfSize (d .ty)) ∷ load offsets RCX r (elfSize (d .ty))
+    ∷ Instruction.ComplexBinary ComplexBinOp.Imul (Operand.Reg RAX) (Operand.Reg RCX) (elfSize (d .ty)) ∷ store offsets d RAX ∷ []
+
+-- negation, complement, or the logical not of a Bool
+unfoldable pub unaryRecord : UnaryOp → Size → Instruction
+unaryRecord UnaryOp.Neg size = Instruction.Unary elf.UnaryOp.Neg (Operand.Reg RAX) size
+unaryRecord UnaryOp.BitNot size = Instruction.Unary elf.UnaryOp.Not (Operand.Reg RAX) size
+unaryRecord UnaryOp.Not size = Instruction.Binary BinOp.Xor (Operand.Reg RAX) (Operand.Imm 1) size
+
+unfoldable pub unaryList : List ℕ → VarId → UnaryOp → IrOp → List Instruction
+unaryList offsets d op x = load offsets RAX x (elfSize (d .ty)) ∷ unaryRecord op (elfSize (d .ty)) ∷ store offsets d RAX ∷ []
+
 unfoldable pub branchList : List ℕ → IrOp → ℕ → List Instruction
 branchList offsets x l =
     load offsets RAX x Size.U8 ∷ Instruction.Binary BinOp.Cmp (Operand.Reg RAX) (Operand.Imm 0) Size.U8
@@ -125,12 +149,13 @@ binaryList offsets d op l r =
     ([] ∷ [] ∷ simpleList offsets d l r BinOp.Or ∷ simpleList offsets d l r BinOp.Xor ∷ simpleList offsets d l r BinOp.And
     ∷ comparedList offsets d l r ConditionCode.E ∷ comparedList offsets d l r ConditionCode.NE ∷ comparedList offsets d l r ConditionCode.L
     ∷ comparedList offsets d l r ConditionCode.LE ∷ comparedList offsets d l r ConditionCode.G ∷ comparedList offsets d l r ConditionCode.GE
-    ∷ [] ∷ [] ∷ simpleList offsets d l r BinOp.Add ∷ simpleList offsets d l r BinOp.Sub ∷ []) op []
+    ∷ shiftList offsets d l r ShiftOp.Shl ∷ shiftList offsets d l r (cond (isUnsigned (d .ty)) ShiftOp.Shr ShiftOp.Sar) ∷ simpleList offsets d l r BinOp.Add
+    ∷ simpleList offsets d l r BinOp.Sub ∷ productList offsets d l r ∷ []) op []
 
 -- the list with these offsets, of those that are written from their cells
 unfoldable pub openList : List ℕ → Instr → List Instruction
 openList offsets (Instr.Copy dest src) = copyList offsets dest src
-openList offsets (Instr.Unary dest op src) = []
+openList offsets (Instr.Unary dest op src) = unaryList offsets dest op src
 openList offsets (Instr.Binary dest op left right) = binaryList offsets dest op left right
 openList offsets (Instr.Cast dest src) = []
 openList offsets (Instr.Zero dest) = []
@@ -152,3 +177,9 @@ unfoldable pub loadCells : ℕ → ℕ → ℕ → Size → Record
 loadCells reg tag value size =
     cond (isOneByte size) (cond (eqb tag 2) (cellsRecord 0 0 1 reg tag value 4 0) (cellsRecord 7 2 1 reg tag value 8 1))
     (cellsRecord 0 0 1 reg tag value (sizeCode size) 0)
+
+-- both sides loaded, an operation of RAX and RCX by form and operation, and the store
+unfoldable pub pairRecords : List ℕ → VarId → IrOp → IrOp → ℕ → ℕ → List Record
+pairRecords offsets d l r form operation =
+    recordOf (load offsets RAX l (elfSize (d .ty))) ∷ recordOf (load offsets RCX r (elfSize (d .ty)))
+    ∷ cellsRecord form operation 1 0 1 1 (sizeCode (elfSize (d .ty))) 0 ∷ recordOf (store offsets d RAX) ∷ []

@@ -12,17 +12,18 @@ ghost use lib.Dec.{eqb};
 ghost use Prim.Native.Nat.{_+_, _≤_};
 ghost use lib.ListN.{getD};
 ghost use Rattle.cells.specs.Cells.{cells, minus};
-ghost use Rattle.ir.specs.Types.{elfSize};
-ghost use Rattle.ir.specs.Function.{varAt, operandAt};
+ghost use Rattle.ir.specs.Types.{elfSize, isUnsigned};
+ghost use Rattle.ir.specs.Function.{varAt, operandAt, unaryOp};
 ghost use Rattle.x86.specs.declared.enums.Operand.{Operand};
 ghost use Rattle.x86.specs.declared.enums.Instruction.{Instruction};
 ghost use Rattle.x86.specs.declared.enums.Size.{Size};
 ghost use Rattle.x86.specs.declared.enums.BinOp.{BinOp};
+ghost use Rattle.x86.specs.declared.enums.ShiftOp.{ShiftOp};
 ghost use Rattle.x86.specs.Registers.{gpr, RAX, RCX};
-ghost use Rattle.x86.specs.Records.{tagOf, valueOf, recordOf, cellsRecord, conditionCode};
+ghost use Rattle.x86.specs.Records.{tagOf, valueOf, recordOf, cellsRecord, conditionCode, sizeCode, shiftCode};
 ghost use Rattle.x86.specs.Says.{recordSays};
 ghost use Rattle.codegen.specs.Arithmetic.{unsignedCode};
-ghost use Rattle.integers.specs.Integers.{operandOf, valueSize, valueUnsigned, load, store, loadCells};
+ghost use Rattle.integers.specs.Integers.{operandOf, valueSize, valueUnsigned, load, store, loadCells, unaryRecord};
 
 // The pattern of minus a variable's offset.
 fn slot(offsets: &[u64], id: u64) -> u64
@@ -252,5 +253,33 @@ pub fn label_record(form: u64, operation: u64, label: u64) -> Record
         src: 0,
         size: 0,
         src_size: 0,
+    }
+}
+
+// `op rax, rcx`, by form and operation.
+pub fn pair(form: u64, operation: u64, size: Size) -> Record
+    ensures { λ r. ⌜ recordSays r ≡ cellsRecord form operation 1 0 1 1 (sizeCode size) 0 ⌝ }
+{
+    cells_record(form, operation, 0, 1, 1, size.code(), 0)
+}
+
+// The code of a right shift of the variable at cell `k`: Shr, or Sar for a signed one.
+pub fn right_shift(s: &[u8], k: usize) -> u64
+    requires { ⌜ k + 3 ≤ cells (now s) ⌝ }
+    ensures { λ r. ⌜ r ≡ shiftCode (cond (isUnsigned (varAt (now (s .entry)) k .ty)) ShiftOp.Shr ShiftOp.Sar) ⌝ }
+{
+    let ty = type_at(s, k + 1);
+    if ty.is_unsigned() { 1 } else { 2 }
+}
+
+// The record of a unary operation, by its number.
+pub fn unary_record(op: u64, size: Size) -> Record
+    ensures { λ r. ⌜ recordSays r ≡ recordOf (unaryRecord (unaryOp op) size) ⌝ }
+{
+    let code = size.code();
+    match op {
+        0 => cells_record(17, 0, 0, 0, 0, code, 0),
+        1 => cells_record(17, 1, 0, 0, 0, code, 0),
+        _ => cells_record(0, 8, 0, 2, 1, code, 0),
     }
 }

@@ -3,14 +3,18 @@ use crate::cellwise::compare;
 use crate::cellwise::label_record;
 use crate::cellwise::load;
 use crate::cellwise::operation;
+use crate::cellwise::pair;
+use crate::cellwise::right_shift;
 use crate::cellwise::set;
 use crate::cellwise::size_at;
 use crate::cellwise::store;
+use crate::cellwise::unary_record;
 use crate::cellwise::value_size;
 use crate::cellwise::zero_test;
 use crate::count_instr;
 use cells::cell_at;
 use records::put_five;
+use records::put_four;
 use records::put_three;
 use records::put_two;
 use x86::enums::BinOp;
@@ -21,9 +25,10 @@ ghost use mathlib.Core.Path.{_≡_};
 ghost use Prim.Native.Nat.{_+_, _≤_};
 ghost use lib.ListN.{length};
 ghost use Rattle.cells.specs.Cells.{cells, cellAt, write};
-ghost use Rattle.ir.specs.Function.{varAt, operandAt, instrAt};
+ghost use Rattle.ir.specs.Function.{varAt, operandAt, instrAt, unaryOp};
+ghost use Rattle.records.specs.Records.{bytesOfRecords};
 ghost use Rattle.x86.specs.Records.{listBytes, recordBytes, cellsRecord};
-ghost use Rattle.integers.specs.Integers.{copyList, simpleList, comparedList, branchList, binaryList, quickList};
+ghost use Rattle.integers.specs.Integers.{pairRecords, unaryList, copyList, simpleList, comparedList, branchList, binaryList, quickList};
 
 fn put_copy(offsets: &[u64], s: &[u8], k: usize, out: &mut [u8], at: usize) -> u64
     requires { ⌜ k + 13 ≤ cells (now s) ⌝ }
@@ -85,7 +90,45 @@ fn put_branch(offsets: &[u64], s: &[u8], k: usize, label: u64, out: &mut [u8], a
     3
 }
 
-// A binary operation, by its number, of those that are simple or compare; room for five records is there.
+// `mov rax, left ; mov rcx, right ; op rax, rcx ; mov [dest], rax`: a shift, or a product.
+fn put_pair(
+    offsets: &[u64],
+    s: &[u8],
+    k: usize,
+    form: u64,
+    operation: u64,
+    out: &mut [u8],
+    at: usize,
+) -> u64
+    requires { ⌜ k + 13 ≤ cells (now s) ⌝ }
+    requires { ⌜ at + 256 ≤ length (now out) ⌝ }
+    ensures { λ r. ⌜ r ≡ 4 ⌝ }
+    ensures { λ r. ⌜ now (out .exit) ≡ write (now (out .entry)) at (bytesOfRecords (pairRecords (now (offsets .entry)) (varAt (now (s .entry)) (k + 2)) (operandAt (now (s .entry)) (k + 5)) (operandAt (now (s .entry)) (k + 9)) form operation)) ⌝ }
+{
+    let d = store(offsets, s, k + 2);
+    let size = size_at(s, k + 2);
+    let a = load(offsets, s, k + 5, 0, size);
+    let b = load(offsets, s, k + 9, 1, size);
+    put_four(out, at, a, b, pair(form, operation, size), d);
+    4
+}
+
+// `mov rax, src ; op rax ; mov [dest], rax`
+fn put_unary(offsets: &[u64], s: &[u8], k: usize, out: &mut [u8], at: usize) -> u64
+    requires { ⌜ k + 13 ≤ cells (now s) ⌝ }
+    requires { ⌜ at + 192 ≤ length (now out) ⌝ }
+    ensures { λ r. ⌜ r ≡ 3 ⌝ }
+    ensures { λ r. ⌜ now (out .exit) ≡ write (now (out .entry)) at (listBytes (unaryList (now (offsets .entry)) (varAt (now (s .entry)) (k + 2)) (unaryOp (cellAt (now (s .entry)) (k + 1))) (operandAt (now (s .entry)) (k + 5)))) ⌝ }
+{
+    let d = store(offsets, s, k + 2);
+    let size = size_at(s, k + 2);
+    let a = load(offsets, s, k + 5, 0, size);
+    let b = unary_record(cell_at(s, k + 1), size);
+    put_three(out, at, a, b, d);
+    3
+}
+
+// A binary operation, by its number, but a division; room for five records is there.
 fn put_binary(offsets: &[u64], s: &[u8], k: usize, out: &mut [u8], at: usize) -> u64
     requires { ⌜ k + 13 ≤ cells (now s) ⌝ }
     requires { ⌜ at + 320 ≤ length (now out) ⌝ }
@@ -102,8 +145,11 @@ fn put_binary(offsets: &[u64], s: &[u8], k: usize, out: &mut [u8], at: usize) ->
         8 => put_compared(offsets, s, k, ConditionCode::LE, out, at),
         9 => put_compared(offsets, s, k, ConditionCode::G, out, at),
         10 => put_compared(offsets, s, k, ConditionCode::GE, out, at),
+        11 => put_pair(offsets, s, k, 13, 0, out, at),
+        12 => put_pair(offsets, s, k, 13, right_shift(s, k + 2), out, at),
         13 => put_simple(offsets, s, k, BinOp::Add, out, at),
         14 => put_simple(offsets, s, k, BinOp::Sub, out, at),
+        15 => put_pair(offsets, s, k, 4, 4, out, at),
         _ => 0,
     }
 }
@@ -122,6 +168,7 @@ pub fn put_quick(offsets: &[u64], s: &[u8], k: usize, labels: u64, out: &mut [u8
     }
     match cell_at(s, k) {
         0 => put_copy(offsets, s, k, out, at),
+        1 => put_unary(offsets, s, k, out, at),
         2 => put_binary(offsets, s, k, out, at),
         6 => put_label(9, 0, cell_at(s, k + 1), out, at),
         7 => put_label(6, 0, cell_at(s, k + 1), out, at),

@@ -176,7 +176,7 @@ pub fn put_three(out: &mut [u8], at: usize, a: Record, b: Record, c: Record)
     put_record(out, at + 128, c);
 }
 
-fn put_four(out: &mut [u8], at: usize, a: Record, b: Record, c: Record, d: Record)
+pub fn put_four(out: &mut [u8], at: usize, a: Record, b: Record, c: Record, d: Record)
     requires { ⌜ at + 256 ≤ length (now out) ⌝ }
     ensures { λ _. ⌜ now (out .exit) ≡ write (now (out .entry)) at (bytesOfRecords (recordSays a ∷ recordSays b ∷ recordSays c ∷ recordSays d ∷ [])) ⌝ }
 {

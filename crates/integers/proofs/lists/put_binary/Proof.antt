@@ -1,7 +1,10 @@
 use Rattle.x86.specs.Records.{listBytes, recordOf}
-use mathlib.Core.Path.{refl}
-use Rattle.integers.specs.Integers.{binaryList, simpleList, comparedList}
-use Rattle.integers.proofs.Left.{no-list, none-written}
+use mathlib.Core.Path.{refl, ap, _∙_}
+use Rattle.integers.specs.Integers.{binaryList, simpleList, comparedList, shiftList, productList, pairRecords}
+use Rattle.cells.specs.Cells.{write}
+use Rattle.records.specs.Records.{bytesOfRecords}
+use Rattle.x86.specs.declared.enums.ShiftOp.{ShiftOp}
+use Rattle.integers.proofs.Left.{no-list, none-written, shift-bytes, product-bytes}
 use Prim.Native.Nat.{_+_}
 use Rattle.cells.specs.Cells.{cellAt}
 use Rattle.ir.specs.Function.{varAt, operandAt}
@@ -42,11 +45,26 @@ put-compared-requires-5 c κs = search needs
 put-compared-requires-6 : tie.Need-put-compared-requires-6
 put-compared-requires-6 c κs = search needs
 
+put-pair-requires : tie.Need-put-pair-requires
+put-pair-requires c κs = search needs
+
+add-right-shift : tie.Need-add-right-shift
+add-right-shift c = search needs
+
+right-shift-requires : tie.Need-right-shift-requires
+right-shift-requires c κs = search needs
+
+put-pair-requires-2 : tie.Need-put-pair-requires-2
+put-pair-requires-2 c κs = search needs
+
 put-simple-requires-4 : tie.Need-put-simple-requires-4
 put-simple-requires-4 c κs = search needs
 
 put-simple-requires-5 : tie.Need-put-simple-requires-5
 put-simple-requires-5 c κs = search needs
+
+put-pair-requires-3 : tie.Need-put-pair-requires-3
+put-pair-requires-3 c κs = search needs
 
 same-length : tie.Need-same-length
 same-length c = search needs
@@ -115,21 +133,51 @@ same-length-10 : tie.Need-same-length-10
 same-length-10 c = search needs
 
 returns-10 : tie.Need-returns-10
-unfolding binaryList simpleList
-returns-10 c = (simp (← c .before .before .before .before .before .cell-at .ensures, c .before .before .before .before .match .keys10, c .before .before .put-simple4 .ensures .0), simp (← c .before .before .before .before .before .cell-at .ensures, c .before .before .before .before .match .keys10, c .before .before .put-simple4 .ensures .1))
+unfolding binaryList shiftList
+returns-10 c =
+    let a = c .before .before .before .before .before .before .before .before .before .args in
+    let e = c .before .before .put-pair .ensures in
+    rw (← c .before .before .before .before .before .cell-at .ensures, c .before .before .before .before .match .keys10) (e .0, e .1 ∙ ap (write (a .out .now) (a .at)) (shift-bytes (a .offsets .now) (varAt (a .s .now) (a .k + 2)) (operandAt (a .s .now) (a .k + 5)) (operandAt (a .s .now) (a .k + 9)) ShiftOp.Shl))
 
 same-length-11 : tie.Need-same-length-11
 same-length-11 c = search needs
 
 returns-11 : tie.Need-returns-11
-unfolding binaryList simpleList
-returns-11 c = (simp (← c .before .before .before .before .before .cell-at .ensures, c .before .before .before .before .match .keys11, c .before .before .put-simple5 .ensures .0), simp (← c .before .before .before .before .before .cell-at .ensures, c .before .before .before .before .match .keys11, c .before .before .put-simple5 .ensures .1))
+unfolding binaryList shiftList
+returns-11 c =
+    let a = c .before .before .before .before .before .before .before .before .before .before .args in
+    let e = c .before .before .put-pair2 .ensures in
+    rw (← c .before .before .before .before .before .before .cell-at .ensures, c .before .before .before .before .before .match .keys11) (e .0, e .1 ∙ ap (write (a .out .now) (a .at)) ((ap (λ n. bytesOfRecords (pairRecords (a .offsets .now) (varAt (a .s .now) (a .k + 2)) (operandAt (a .s .now) (a .k + 5)) (operandAt (a .s .now) (a .k + 9)) 13 n)) (c .before .before .before .before .right-shift .ensures) ∙ shift-bytes (a .offsets .now) (varAt (a .s .now) (a .k + 2)) (operandAt (a .s .now) (a .k + 5)) (operandAt (a .s .now) (a .k + 9)) _)))
+
+same-length-12 : tie.Need-same-length-12
+same-length-12 c = search needs
 
 returns-12 : tie.Need-returns-12
-returns-12 c =
+unfolding binaryList simpleList
+returns-12 c = (simp (← c .before .before .before .before .before .cell-at .ensures, c .before .before .before .before .match .keys12, c .before .before .put-simple4 .ensures .0), simp (← c .before .before .before .before .before .cell-at .ensures, c .before .before .before .before .match .keys12, c .before .before .put-simple4 .ensures .1))
+
+same-length-13 : tie.Need-same-length-13
+same-length-13 c = search needs
+
+returns-13 : tie.Need-returns-13
+unfolding binaryList simpleList
+returns-13 c = (simp (← c .before .before .before .before .before .cell-at .ensures, c .before .before .before .before .match .keys13, c .before .before .put-simple5 .ensures .0), simp (← c .before .before .before .before .before .cell-at .ensures, c .before .before .before .before .match .keys13, c .before .before .put-simple5 .ensures .1))
+
+same-length-14 : tie.Need-same-length-14
+same-length-14 c = search needs
+
+returns-14 : tie.Need-returns-14
+unfolding binaryList productList
+returns-14 c =
+    let a = c .before .before .before .before .before .before .before .before .before .args in
+    let e = c .before .before .put-pair3 .ensures in
+    rw (← c .before .before .before .before .before .cell-at .ensures, c .before .before .before .before .match .keys14) (e .0, e .1 ∙ ap (write (a .out .now) (a .at)) (product-bytes (a .offsets .now) (varAt (a .s .now) (a .k + 2)) (operandAt (a .s .now) (a .k + 5)) (operandAt (a .s .now) (a .k + 9))))
+
+returns-15 : tie.Need-returns-15
+returns-15 c =
     let a = c .before .before .before .before .before .args in
-    let e = no-list (a .offsets .now) (varAt (a .s .now) (a .k + 2)) (operandAt (a .s .now) (a .k + 5)) (operandAt (a .s .now) (a .k + 9)) (cellAt (a .s .now) (a .k + 1)) (rw (← c .before .cell-at .ensures) (c .match .rest .0 .0 .0 .0 .0 .0 .0 .0 .0 .0 .1)) (rw (← c .before .cell-at .ensures) (c .match .rest .0 .0 .0 .0 .0 .0 .0 .0 .0 .1)) (rw (← c .before .cell-at .ensures) (c .match .rest .0 .0 .0 .0 .0 .0 .0 .0 .1)) (rw (← c .before .cell-at .ensures) (c .match .rest .0 .0 .0 .0 .0 .0 .0 .1)) (rw (← c .before .cell-at .ensures) (c .match .rest .0 .0 .0 .0 .0 .0 .1)) (rw (← c .before .cell-at .ensures) (c .match .rest .0 .0 .0 .0 .0 .1)) (rw (← c .before .cell-at .ensures) (c .match .rest .0 .0 .0 .0 .1)) (rw (← c .before .cell-at .ensures) (c .match .rest .0 .0 .0 .1)) (rw (← c .before .cell-at .ensures) (c .match .rest .0 .0 .1)) (rw (← c .before .cell-at .ensures) (c .match .rest .0 .1)) (rw (← c .before .cell-at .ensures) (c .match .rest .1)) in
+    let e = no-list (a .offsets .now) (varAt (a .s .now) (a .k + 2)) (operandAt (a .s .now) (a .k + 5)) (operandAt (a .s .now) (a .k + 9)) (cellAt (a .s .now) (a .k + 1)) (rw (← c .before .cell-at .ensures) (c .match .rest .0 .0 .0 .0 .0 .0 .0 .0 .0 .0 .0 .0 .0 .1)) (rw (← c .before .cell-at .ensures) (c .match .rest .0 .0 .0 .0 .0 .0 .0 .0 .0 .0 .0 .0 .1)) (rw (← c .before .cell-at .ensures) (c .match .rest .0 .0 .0 .0 .0 .0 .0 .0 .0 .0 .0 .1)) (rw (← c .before .cell-at .ensures) (c .match .rest .0 .0 .0 .0 .0 .0 .0 .0 .0 .0 .1)) (rw (← c .before .cell-at .ensures) (c .match .rest .0 .0 .0 .0 .0 .0 .0 .0 .0 .1)) (rw (← c .before .cell-at .ensures) (c .match .rest .0 .0 .0 .0 .0 .0 .0 .0 .1)) (rw (← c .before .cell-at .ensures) (c .match .rest .0 .0 .0 .0 .0 .0 .0 .1)) (rw (← c .before .cell-at .ensures) (c .match .rest .0 .0 .0 .0 .0 .0 .1)) (rw (← c .before .cell-at .ensures) (c .match .rest .0 .0 .0 .0 .0 .1)) (rw (← c .before .cell-at .ensures) (c .match .rest .0 .0 .0 .0 .1)) (rw (← c .before .cell-at .ensures) (c .match .rest .0 .0 .0 .1)) (rw (← c .before .cell-at .ensures) (c .match .rest .0 .0 .1)) (rw (← c .before .cell-at .ensures) (c .match .rest .0 .1)) (rw (← c .before .cell-at .ensures) (c .match .rest .1)) in
     rw (e) (refl, none-written (a .out .now) (a .at))
 
 pub put-binary-spec : {M : Type 1} → statement M
-put-binary-spec = tie.close (tie.spec add-cell-at cell-at-requires put-simple-requires put-simple-requires-2 put-simple-requires-3 put-compared-requires put-compared-requires-2 put-compared-requires-3 put-compared-requires-4 put-compared-requires-5 put-compared-requires-6 put-simple-requires-4 put-simple-requires-5 same-length returns same-length-2 returns-2 same-length-3 returns-3 same-length-4 returns-4 same-length-5 returns-5 same-length-6 returns-6 same-length-7 returns-7 same-length-8 returns-8 same-length-9 returns-9 same-length-10 returns-10 same-length-11 returns-11 returns-12)
+put-binary-spec = tie.close (tie.spec add-cell-at cell-at-requires put-simple-requires put-simple-requires-2 put-simple-requires-3 put-compared-requires put-compared-requires-2 put-compared-requires-3 put-compared-requires-4 put-compared-requires-5 put-compared-requires-6 put-pair-requires add-right-shift right-shift-requires put-pair-requires-2 put-simple-requires-4 put-simple-requires-5 put-pair-requires-3 same-length returns same-length-2 returns-2 same-length-3 returns-3 same-length-4 returns-4 same-length-5 returns-5 same-length-6 returns-6 same-length-7 returns-7 same-length-8 returns-8 same-length-9 returns-9 same-length-10 returns-10 same-length-11 returns-11 same-length-12 returns-12 same-length-13 returns-13 same-length-14 returns-14 returns-15)
