@@ -5,6 +5,9 @@ use mathlib.Core.List.{List, [], _∷_, append-nil}
 use Rattle.ir.specs.declared.VarId.{VarId}
 use Rattle.ir.specs.declared.Operand.{Operand as IrOp}
 use lib.ListN.{getD, length}
+use lib.Dec.{leb}
+use mathlib.Core.Bool.{Bool, true, false, cond}
+use Rattle.ir.specs.Types.{elementWidth}
 use Rattle.cells.specs.Cells.{cellAt, write}
 use Rattle.ir.specs.declared.Instr.{Instr}
 use Rattle.ir.specs.Function.{copyAt, unaryAt, binaryAt, castAt, zeroAt, callAt, labelAt, jumpAt, jumpIfNotAt, returnAt, instrAt}
@@ -16,7 +19,7 @@ use Rattle.x86.specs.declared.enums.ShiftOp.{ShiftOp}
 use borrow.Author.Tests.{ne-eqb}
 use Rattle.records.specs.Records.{bytesOfRecords}
 use Rattle.records.proofs.Written.{nothing}
-use Rattle.integers.specs.Integers.{binaryList, openList, quickCount, quickList, pairRecords, shiftList, productList}
+use Rattle.integers.specs.Integers.{binaryList, openList, quickCount, quickList, castList, copyList, valueWidth, pairRecords, shiftList, productList}
 
 pub no-list : (offsets : List ℕ) (d : VarId) (l r : IrOp) (op : ℕ) → (op ≡ 2 → ⊥) → (op ≡ 3 → ⊥) → (op ≡ 4 → ⊥) → (op ≡ 5 → ⊥) → (op ≡ 6 → ⊥) → (op ≡ 7 → ⊥) → (op ≡ 8 → ⊥) → (op ≡ 9 → ⊥) → (op ≡ 10 → ⊥) → (op ≡ 11 → ⊥) → (op ≡ 12 → ⊥) → (op ≡ 13 → ⊥) → (op ≡ 14 → ⊥) → (op ≡ 15 → ⊥) → binaryList offsets d op l r ≡ []
 unfolding binaryList
@@ -44,22 +47,22 @@ unfolding listBytes bytesOfRecords
 none-written s at = nothing s at
 
 -- the instructions that are left to their list makers
-pub no-open : (offsets : List ℕ) (s : List ℕ) (k : ℕ) → (cellAt s k ≡ 0 → ⊥) → (cellAt s k ≡ 1 → ⊥) → (cellAt s k ≡ 2 → ⊥) → (cellAt s k ≡ 6 → ⊥) → (cellAt s k ≡ 7 → ⊥) → (cellAt s k ≡ 8 → ⊥) → openList offsets (instrAt s k) ≡ []
+pub no-open : (offsets : List ℕ) (s : List ℕ) (k : ℕ) → (cellAt s k ≡ 0 → ⊥) → (cellAt s k ≡ 1 → ⊥) → (cellAt s k ≡ 2 → ⊥) → (cellAt s k ≡ 3 → ⊥) → (cellAt s k ≡ 6 → ⊥) → (cellAt s k ≡ 7 → ⊥) → (cellAt s k ≡ 8 → ⊥) → openList offsets (instrAt s k) ≡ []
 unfolding instrAt openList
 no-open offsets s k = go (cellAt s k)
   where
-    go : (c : ℕ) → (c ≡ 0 → ⊥) → (c ≡ 1 → ⊥) → (c ≡ 2 → ⊥) → (c ≡ 6 → ⊥) → (c ≡ 7 → ⊥) → (c ≡ 8 → ⊥) → openList offsets (getD (copyAt ∷ unaryAt ∷ binaryAt ∷ castAt ∷ zeroAt ∷ callAt ∷ labelAt ∷ jumpAt ∷ jumpIfNotAt ∷ returnAt ∷ []) c (λ s k. Instr.Comment) s k) ≡ []
-    go zero h0 h1 h2 h6 h7 h8 = absurd (h0 refl)
-    go (suc zero) h0 h1 h2 h6 h7 h8 = absurd (h1 refl)
-    go (suc (suc zero)) h0 h1 h2 h6 h7 h8 = absurd (h2 refl)
-    go (suc (suc (suc zero))) h0 h1 h2 h6 h7 h8 = refl
-    go (suc (suc (suc (suc zero)))) h0 h1 h2 h6 h7 h8 = refl
-    go (suc (suc (suc (suc (suc zero))))) h0 h1 h2 h6 h7 h8 = refl
-    go (suc (suc (suc (suc (suc (suc zero)))))) h0 h1 h2 h6 h7 h8 = absurd (h6 refl)
-    go (suc (suc (suc (suc (suc (suc (suc zero))))))) h0 h1 h2 h6 h7 h8 = absurd (h7 refl)
-    go (suc (suc (suc (suc (suc (suc (suc (suc zero)))))))) h0 h1 h2 h6 h7 h8 = absurd (h8 refl)
-    go (suc (suc (suc (suc (suc (suc (suc (suc (suc zero))))))))) h0 h1 h2 h6 h7 h8 = refl
-    go (suc (suc (suc (suc (suc (suc (suc (suc (suc (suc n)))))))))) h0 h1 h2 h6 h7 h8 = refl
+    go : (c : ℕ) → (c ≡ 0 → ⊥) → (c ≡ 1 → ⊥) → (c ≡ 2 → ⊥) → (c ≡ 3 → ⊥) → (c ≡ 6 → ⊥) → (c ≡ 7 → ⊥) → (c ≡ 8 → ⊥) → openList offsets (getD (copyAt ∷ unaryAt ∷ binaryAt ∷ castAt ∷ zeroAt ∷ callAt ∷ labelAt ∷ jumpAt ∷ jumpIfNotAt ∷ returnAt ∷ []) c (λ s k. Instr.Comment) s k) ≡ []
+    go zero h0 h1 h2 h3 h6 h7 h8 = absurd (h0 refl)
+    go (suc zero) h0 h1 h2 h3 h6 h7 h8 = absurd (h1 refl)
+    go (suc (suc zero)) h0 h1 h2 h3 h6 h7 h8 = absurd (h2 refl)
+    go (suc (suc (suc zero))) h0 h1 h2 h3 h6 h7 h8 = absurd (h3 refl)
+    go (suc (suc (suc (suc zero)))) h0 h1 h2 h3 h6 h7 h8 = refl
+    go (suc (suc (suc (suc (suc zero))))) h0 h1 h2 h3 h6 h7 h8 = refl
+    go (suc (suc (suc (suc (suc (suc zero)))))) h0 h1 h2 h3 h6 h7 h8 = absurd (h6 refl)
+    go (suc (suc (suc (suc (suc (suc (suc zero))))))) h0 h1 h2 h3 h6 h7 h8 = absurd (h7 refl)
+    go (suc (suc (suc (suc (suc (suc (suc (suc zero)))))))) h0 h1 h2 h3 h6 h7 h8 = absurd (h8 refl)
+    go (suc (suc (suc (suc (suc (suc (suc (suc (suc zero))))))))) h0 h1 h2 h3 h6 h7 h8 = refl
+    go (suc (suc (suc (suc (suc (suc (suc (suc (suc (suc n)))))))))) h0 h1 h2 h3 h6 h7 h8 = refl
 
 -- ---- the list of an instruction, by its kind
 
@@ -79,6 +82,10 @@ is-1 s k e = rw (e)
 pub is-2 : (s : List ℕ) (k : ℕ) → cellAt s k ≡ 2 → instrAt s k ≡ binaryAt s k
 unfolding instrAt
 is-2 s k e = rw (e)
+
+pub is-3 : (s : List ℕ) (k : ℕ) → cellAt s k ≡ 3 → instrAt s k ≡ castAt s k
+unfolding instrAt
+is-3 s k e = rw (e)
 
 pub is-6 : (s : List ℕ) (k : ℕ) → cellAt s k ≡ 6 → instrAt s k ≡ labelAt s k
 unfolding instrAt
@@ -100,6 +107,15 @@ shift-bytes offsets d l r op = refl
 pub product-bytes : (offsets : List ℕ) (d : VarId) (l r : IrOp) → bytesOfRecords (pairRecords offsets d l r 4 4) ≡ listBytes (productList offsets d l r)
 unfolding bytesOfRecords listBytes pairRecords productList recordOf
 product-bytes offsets d l r = refl
+
+-- a cast has two records
+pub cast-length : (offsets : List ℕ) (d : VarId) (x : IrOp) → 2 ≡ length (castList offsets d x)
+unfolding castList copyList
+cast-length offsets d x = go (leb (elementWidth (d .ty .code)) (valueWidth x)) _ _ refl refl
+  where
+    go : (b : Bool) (is js : List Instruction) → length is ≡ 2 → length js ≡ 2 → 2 ≡ length (cond b is js)
+    go true is js e f = sym e
+    go false is js e f = sym f
 
 -- the bytes of one record
 pub label-bytes : (l : ℕ) → recordBytes (cellsRecord 9 0 4 l 0 0 0 0) ≡ listBytes (Instruction.Label l ∷ [])

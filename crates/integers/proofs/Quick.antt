@@ -5,7 +5,7 @@ use mathlib.Core.Bool.{Bool, true, false, cond, _&&_, _||_}
 use mathlib.Core.List.{List, [], _∷_, _++_}
 use lib.ListN.{length, getD}
 use native.Mathlib.Omega.{arith}
-use lib.Dec.{ltb, eqb}
+use lib.Dec.{ltb, eqb, leb}
 use borrow.Author.Tests.{eq-eqb}
 use Rattle.ir.specs.declared.«Type».{«Type» as IrType}
 use Rattle.ir.specs.declared.VarId.{VarId}
@@ -20,16 +20,17 @@ use Rattle.x86.specs.declared.enums.Operand.{Operand}
 use Rattle.x86.specs.declared.enums.BinOp.{BinOp}
 use Rattle.x86.specs.declared.enums.ConditionCode.{ConditionCode}
 use Rattle.x86.specs.declared.enums.ShiftOp.{ShiftOp}
+use Rattle.x86.specs.declared.enums.ExtendOp.{ExtendOp}
 use Rattle.x86.specs.declared.enums.Instruction.{Instruction}
 use Rattle.x86.specs.Registers.{RAX, RCX, RDX, xmm}
 use Rattle.codegen.specs.Context.{Context, displacement, labelAt}
 use Rattle.codegen.specs.Utils.{sizeFrom, varSize, convertVar, convertOperand, sizeOr, loadFrom, loadValue, loadOperand}
-use Rattle.codegen.specs.Instructions.{move, kind, Kind, operandKind, generateCopy, generateReturn, generateLabel, generateJump, generateJmpIfNot}
+use Rattle.codegen.specs.Instructions.{move, kind, Kind, source, castOperand, widened, castBetween, generateCast, operandKind, generateCopy, generateReturn, generateLabel, generateJump, generateJmpIfNot}
 use Rattle.codegen.specs.Arithmetic.{simpleOperation, twoLoads, dividing, division, multiplication, shift, compared, comparison, generateBinary, integerBinary, generateUnary}
 use Rattle.codegen.specs.Generation.{generateInstr}
 use Rattle.utils.specs.Answers.{counted}
 use Rattle.layout.proofs.Passed.{apart}
-use Rattle.integers.specs.Integers.{isInteger, isIntegerVar, isIntegerOperand, binaryCount, quickCount, slotOf, operandOf, valueSize, valueUnsigned, copyList, simpleList, comparedList, shiftList, productList, unaryRecord, unaryList, branchList, binaryList, openList, quickList}
+use Rattle.integers.specs.Integers.{isInteger, isIntegerVar, isIntegerOperand, binaryCount, quickCount, slotOf, operandOf, valueSize, valueUnsigned, copyList, simpleList, comparedList, shiftList, productList, unaryRecord, unaryList, branchList, binaryList, openList, quickList, valueWidth, isQuickCast, castList}
 
 -- both of two tests
 first : (a b : Bool) → (a && b) ≡ true → a ≡ true
@@ -252,43 +253,6 @@ binary-counted ctx d l r (suc (suc (suc (suc (suc (suc (suc (suc (suc (suc (suc 
 binary-counted ctx d l r (suc (suc (suc (suc (suc (suc (suc (suc (suc (suc (suc (suc (suc (suc (suc (suc (suc zero))))))))))))))))) hd hl hr h = divided ctx d l r RDX hd hl hr
 binary-counted ctx d l r (suc (suc (suc (suc (suc (suc (suc (suc (suc (suc (suc (suc (suc (suc (suc (suc (suc (suc n)))))))))))))))))) hd hl hr h = divided ctx d l r RDX hd hl hr
 
--- where the count is not 0 its condition holds
-holds : (b : Bool) (n : ℕ) → (cond b n 0 ≡ 0 → ⊥) → b ≡ true
-holds true n h = refl
-holds false n h = absurd (h refl)
-
-nonzero : (b : Bool) (n : ℕ) → (cond b n 0 ≡ 0 → ⊥) → n ≡ 0 → ⊥
-nonzero true n h = h
-nonzero false n h = absurd (h refl)
-
--- a count that is not 0 is the number of records
-pub quick-counted : (ctx : Context) (labels : ℕ) (ret : IrType) (i : Instr) (args : List IrOp) → (quickCount (length (ctx .offsets)) labels i ≡ 0 → ⊥)
-    → counted (generateInstr ctx labels ret i args) ≡ ok (quickCount (length (ctx .offsets)) labels i)
-unfolding quickCount generateInstr generateBinary generateLabel generateJump generateJmpIfNot generateReturn labelAt
-quick-counted ctx labels ret (Instr.Copy d x) args h =
-    let e = holds (isIntegerVar (length (ctx .offsets)) d && isIntegerOperand (length (ctx .offsets)) x) 2 h in
-    rw (e) (copy-counted ctx d x (first _ _ e) (second (isIntegerVar (length (ctx .offsets)) d) _ e))
-quick-counted ctx labels ret (Instr.Unary d op x) args h =
-    let e = holds (isIntegerVar (length (ctx .offsets)) d && isIntegerOperand (length (ctx .offsets)) x) 3 h in
-    rw (e) (unary-counted ctx d op x (first _ _ e) (second (isIntegerVar (length (ctx .offsets)) d) _ e))
-quick-counted ctx labels ret (Instr.Binary d op l r) args h =
-    let e = holds (isIntegerVar (length (ctx .offsets)) d && (isIntegerOperand (length (ctx .offsets)) l && isIntegerOperand (length (ctx .offsets)) r)) (binaryCount op) h in
-    let f = second (isIntegerVar (length (ctx .offsets)) d) _ e in
-    rw (e, integral _ d (first _ _ e))
-    (binary-counted ctx d l r op (first _ _ e) (first _ _ f) (second (isIntegerOperand (length (ctx .offsets)) l) _ f) (nonzero (isIntegerVar (length (ctx .offsets)) d && (isIntegerOperand (length (ctx .offsets)) l && isIntegerOperand (length (ctx .offsets)) r)) (binaryCount op) h))
-quick-counted ctx labels ret (Instr.Cast d x) args h = absurd (h refl)
-quick-counted ctx labels ret (Instr.Zero d) args h = absurd (h refl)
-quick-counted ctx labels ret (Instr.Call d symbol count) args h = absurd (h refl)
-quick-counted ctx labels ret (Instr.Label l) args h = rw (holds (ltb l labels) 1 h)
-quick-counted ctx labels ret (Instr.Jump l) args h = rw (holds (ltb l labels) 1 h)
-quick-counted ctx labels ret (Instr.JumpIfNot x l) args h =
-    let e = holds (isIntegerOperand (length (ctx .offsets)) x && ltb l labels) 3 h in
-    rw (e, loaded ctx RAX x Size.U8 (first _ _ e), second (isIntegerOperand (length (ctx .offsets)) x) _ e)
-quick-counted ctx labels ret (Instr.Return x) args h =
-    let e = holds (isIntegerOperand (length (ctx .offsets)) x) 4 h in
-    rw (e, loaded ctx (cond (isFloat ret) (xmm 0) RAX) x Size.NoSize e)
-quick-counted ctx labels ret Instr.Comment args h = absurd (h refl)
-
 -- ---- the lists themselves
 
 -- a size that is given stands
@@ -389,6 +353,161 @@ unary-made ctx d IrUnary.Neg x hd hx =
 unary-made ctx d IrUnary.BitNot x hd hx = rw (sized _ d hd, loaded ctx RAX x (elfSize (d .ty)) hx, slotted ctx d hd, var-stands _ d (operandSize x) hd)
 unary-made ctx d IrUnary.Not x hd hx = rw (sized _ d hd, loaded ctx RAX x (elfSize (d .ty)) hx, slotted ctx d hd, var-stands _ d (operandSize x) hd)
 
+-- ---- casts
+
+width-known : (n : ℕ) (v : VarId) → isIntegerVar n v ≡ true → typeSize (v .ty) ≡ ok (elementWidth (v .ty .code))
+unfolding isIntegerVar typeSize bytes
+width-known n v h =
+    let t = second (ltb (v .id) n) _ h in
+    rw (has-width (v .ty .code) (second (isScalar (v .ty)) _ t), first (isScalar (v .ty)) _ t)
+
+kind-width : (x : IrOp) → kindOf x .size ≡ valueWidth x
+unfolding valueWidth
+kind-width (IrOp.Var v) = refl
+kind-width (IrOp.Int v short unsigned) = refl
+kind-width (IrOp.Float k) = refl
+kind-width (IrOp.Bool b) = refl
+kind-width (IrOp.Address v) = refl
+kind-width (IrOp.DataAddress k) = refl
+kind-width IrOp.Null = refl
+
+or-true : (b : Bool) → (b || true) ≡ true
+or-true true = refl
+or-true false = refl
+
+-- a cast between integers is a copy where dest has no more bytes
+copies : (m n : ℕ) → ((true && (eqb m n || true)) && leb n m) ≡ leb n m
+copies m n = rw (or-true (eqb m n))
+
+at-most-eight : (code : ℕ) → leb (elementWidth code) 8 ≡ true
+unfolding elementWidth
+at-most-eight zero = refl
+at-most-eight (suc zero) = refl
+at-most-eight (suc (suc zero)) = refl
+at-most-eight (suc (suc (suc zero))) = refl
+at-most-eight (suc (suc (suc (suc zero)))) = refl
+at-most-eight (suc (suc (suc (suc (suc zero))))) = refl
+at-most-eight (suc (suc (suc (suc (suc (suc zero)))))) = refl
+at-most-eight (suc (suc (suc (suc (suc (suc (suc zero))))))) = refl
+at-most-eight (suc (suc (suc (suc (suc (suc (suc (suc zero)))))))) = refl
+at-most-eight (suc (suc (suc (suc (suc (suc (suc (suc (suc zero))))))))) = refl
+at-most-eight (suc (suc (suc (suc (suc (suc (suc (suc (suc (suc zero)))))))))) = refl
+at-most-eight (suc (suc (suc (suc (suc (suc (suc (suc (suc (suc (suc zero))))))))))) = refl
+at-most-eight (suc (suc (suc (suc (suc (suc (suc (suc (suc (suc (suc (suc zero)))))))))))) = refl
+at-most-eight (suc (suc (suc (suc (suc (suc (suc (suc (suc (suc (suc (suc (suc n))))))))))))) = refl
+
+-- a variable of one or of four bytes, widened
+abbrev Widened : Context → VarId → VarId → ℕ → ℕ → Type 0
+Widened ctx d v m n =
+    castBetween ctx d (widened false (source [] (slotOf (ctx .offsets) v) m)) false false n
+    ≡ ok (cond (eqb m 1) (loadFrom RAX (slotOf (ctx .offsets) v) Size.U8) (Instruction.Extend ExtendOp.Movsxd RAX (slotOf (ctx .offsets) v) Size.U32 Size.U64) ∷ move (slotOf (ctx .offsets) d) (Operand.Reg RAX) (elfSize (d .ty)) ∷ [])
+
+one-widened : (ctx : Context) (d v : VarId) (n : ℕ) → Var ctx d → Widened ctx d v 1 n
+unfolding castBetween loadFrom slotOf
+one-widened ctx d v n hd = rw (slotted ctx d hd, sized _ d hd)
+
+four-widened : (ctx : Context) (d v : VarId) (n : ℕ) → Var ctx d → Widened ctx d v 4 n
+unfolding castBetween
+four-widened ctx d v n hd = rw (slotted ctx d hd, sized _ d hd)
+
+var-widened : (ctx : Context) (d v : VarId) (code dest : ℕ) → isInteger code ≡ true → leb (elementWidth dest) (elementWidth code) ≡ false → Var ctx d
+    → Widened ctx d v (elementWidth code) (elementWidth dest)
+unfolding isInteger elementWidth
+var-widened ctx d v zero dest h l hd = apart (sym h)
+var-widened ctx d v (suc zero) dest h l hd = apart (sym (at-most-eight dest) ∙ l)
+var-widened ctx d v (suc (suc zero)) dest h l hd = apart (sym (at-most-eight dest) ∙ l)
+var-widened ctx d v (suc (suc (suc zero))) dest h l hd = four-widened ctx d v _ hd
+var-widened ctx d v (suc (suc (suc (suc zero)))) dest h l hd = four-widened ctx d v _ hd
+var-widened ctx d v (suc (suc (suc (suc (suc zero))))) dest h l hd = apart (sym h)
+var-widened ctx d v (suc (suc (suc (suc (suc (suc zero)))))) dest h l hd = apart (sym h)
+var-widened ctx d v (suc (suc (suc (suc (suc (suc (suc zero))))))) dest h l hd = one-widened ctx d v _ hd
+var-widened ctx d v (suc (suc (suc (suc (suc (suc (suc (suc zero)))))))) dest h l hd = one-widened ctx d v _ hd
+var-widened ctx d v (suc (suc (suc (suc (suc (suc (suc (suc (suc zero))))))))) dest h l hd = one-widened ctx d v _ hd
+var-widened ctx d v (suc (suc (suc (suc (suc (suc (suc (suc (suc (suc zero)))))))))) dest h l hd = apart (sym (at-most-eight dest) ∙ l)
+var-widened ctx d v (suc (suc (suc (suc (suc (suc (suc (suc (suc (suc (suc zero))))))))))) dest h l hd = apart (sym h)
+var-widened ctx d v (suc (suc (suc (suc (suc (suc (suc (suc (suc (suc (suc (suc zero)))))))))))) dest h l hd = apart (sym h)
+var-widened ctx d v (suc (suc (suc (suc (suc (suc (suc (suc (suc (suc (suc (suc (suc n))))))))))))) dest h l hd = apart (sym h)
+
+code-of : (n : ℕ) (v : VarId) → isIntegerVar n v ≡ true → isInteger (v .ty .code) ≡ true
+unfolding isIntegerVar
+code-of n v h = second (isScalar (v .ty)) _ (second (ltb (v .id) n) _ h)
+
+-- the part of a cast behind its look-ups
+cast-wide : (ctx : Context) (d : VarId) (x : IrOp) → Var ctx d → Op ctx x → isQuickCast (d .ty .code) x ≡ true → leb (elementWidth (d .ty .code)) (valueWidth x) ≡ false
+    → (castOperand ctx x (valueWidth x) >>= λ s. castBetween ctx d (widened false s) false false (elementWidth (d .ty .code))) ≡ ok (castList (ctx .offsets) d x)
+unfolding isIntegerOperand isQuickCast castOperand valueWidth castList operandOf
+cast-wide ctx d (IrOp.Var v) hd hx hq l = rw (l, slotted ctx v hx) (var-widened ctx d v (v .ty .code) (d .ty .code) (code-of _ v hx) l hd)
+cast-wide ctx d (IrOp.Int v short unsigned) hd hx hq l = apart (sym (rw (l) at hq))
+cast-wide ctx d (IrOp.Float k) hd hx hq l = apart (sym hx)
+cast-wide ctx d (IrOp.Bool b) hd hx hq l = apart (sym (rw (l) at hq))
+cast-wide ctx d (IrOp.Address v) hd hx hq l = apart (sym hx)
+cast-wide ctx d (IrOp.DataAddress k) hd hx hq l = apart (sym hx)
+cast-wide ctx d IrOp.Null hd hx hq l = apart (sym (rw (l) at hq))
+
+cast-narrow : (offsets : List ℕ) (d : VarId) (x : IrOp) → leb (elementWidth (d .ty .code)) (valueWidth x) ≡ true → castList offsets d x ≡ copyList offsets d x
+unfolding castList
+cast-narrow offsets d x e = rw (e)
+
+cast-made : (ctx : Context) (d : VarId) (x : IrOp) → Var ctx d → Op ctx x → isQuickCast (d .ty .code) x ≡ true → generateCast ctx d x ≡ ok (castList (ctx .offsets) d x)
+unfolding generateCast
+cast-made ctx d x hd hx hq =
+    rw (kind-known ctx x hx, width-known _ d hd, integral _ d hd, kind-integral 0 x, copies (kindOf x .size) (elementWidth (d .ty .code)), kind-width x)
+    (go (leb (elementWidth (d .ty .code)) (valueWidth x)) refl)
+  where
+    go : (b : Bool) → leb (elementWidth (d .ty .code)) (valueWidth x) ≡ b
+        → cond (leb (elementWidth (d .ty .code)) (valueWidth x)) (generateCopy ctx d x) (castOperand ctx x (valueWidth x) >>= λ s. castBetween ctx d (widened false s) false false (elementWidth (d .ty .code)))
+        ≡ ok (castList (ctx .offsets) d x)
+    go true e = rw (e) (copy-made ctx d x hd hx ∙ sym (ap ok (cast-narrow (ctx .offsets) d x e)))
+    go false e = rw (e) (cast-wide ctx d x hd hx hq e)
+
+cast-long : (offsets : List ℕ) (d : VarId) (x : IrOp) → counted (ok (castList offsets d x)) ≡ ok 2
+unfolding castList copyList
+cast-long offsets d x = go (leb (elementWidth (d .ty .code)) (valueWidth x))
+  where
+    go : (b : Bool) → counted (ok (cond b (copyList offsets d x) (cond (eqb (valueWidth x) 1) (loadFrom RAX (operandOf offsets x) Size.U8) (Instruction.Extend ExtendOp.Movsxd RAX (operandOf offsets x) Size.U32 Size.U64) ∷ move (slotOf offsets d) (Operand.Reg RAX) (elfSize (d .ty)) ∷ []))) ≡ ok 2
+    go true = refl
+    go false = refl
+
+-- where the count is not 0 its condition holds
+holds : (b : Bool) (n : ℕ) → (cond b n 0 ≡ 0 → ⊥) → b ≡ true
+holds true n h = refl
+holds false n h = absurd (h refl)
+
+nonzero : (b : Bool) (n : ℕ) → (cond b n 0 ≡ 0 → ⊥) → n ≡ 0 → ⊥
+nonzero true n h = h
+nonzero false n h = absurd (h refl)
+
+-- a count that is not 0 is the number of records
+pub quick-counted : (ctx : Context) (labels : ℕ) (ret : IrType) (i : Instr) (args : List IrOp) → (quickCount (length (ctx .offsets)) labels i ≡ 0 → ⊥)
+    → counted (generateInstr ctx labels ret i args) ≡ ok (quickCount (length (ctx .offsets)) labels i)
+unfolding quickCount generateInstr generateBinary generateLabel generateJump generateJmpIfNot generateReturn labelAt
+quick-counted ctx labels ret (Instr.Copy d x) args h =
+    let e = holds (isIntegerVar (length (ctx .offsets)) d && isIntegerOperand (length (ctx .offsets)) x) 2 h in
+    rw (e) (copy-counted ctx d x (first _ _ e) (second (isIntegerVar (length (ctx .offsets)) d) _ e))
+quick-counted ctx labels ret (Instr.Unary d op x) args h =
+    let e = holds (isIntegerVar (length (ctx .offsets)) d && isIntegerOperand (length (ctx .offsets)) x) 3 h in
+    rw (e) (unary-counted ctx d op x (first _ _ e) (second (isIntegerVar (length (ctx .offsets)) d) _ e))
+quick-counted ctx labels ret (Instr.Binary d op l r) args h =
+    let e = holds (isIntegerVar (length (ctx .offsets)) d && (isIntegerOperand (length (ctx .offsets)) l && isIntegerOperand (length (ctx .offsets)) r)) (binaryCount op) h in
+    let f = second (isIntegerVar (length (ctx .offsets)) d) _ e in
+    rw (e, integral _ d (first _ _ e))
+    (binary-counted ctx d l r op (first _ _ e) (first _ _ f) (second (isIntegerOperand (length (ctx .offsets)) l) _ f) (nonzero (isIntegerVar (length (ctx .offsets)) d && (isIntegerOperand (length (ctx .offsets)) l && isIntegerOperand (length (ctx .offsets)) r)) (binaryCount op) h))
+quick-counted ctx labels ret (Instr.Cast d x) args h =
+    let e = holds (isIntegerVar (length (ctx .offsets)) d && (isIntegerOperand (length (ctx .offsets)) x && isQuickCast (d .ty .code) x)) 2 h in
+    let f = second (isIntegerVar (length (ctx .offsets)) d) _ e in
+    rw (e, cast-made ctx d x (first _ _ e) (first _ _ f) (second (isIntegerOperand (length (ctx .offsets)) x) _ f)) (cast-long (ctx .offsets) d x)
+quick-counted ctx labels ret (Instr.Zero d) args h = absurd (h refl)
+quick-counted ctx labels ret (Instr.Call d symbol count) args h = absurd (h refl)
+quick-counted ctx labels ret (Instr.Label l) args h = rw (holds (ltb l labels) 1 h)
+quick-counted ctx labels ret (Instr.Jump l) args h = rw (holds (ltb l labels) 1 h)
+quick-counted ctx labels ret (Instr.JumpIfNot x l) args h =
+    let e = holds (isIntegerOperand (length (ctx .offsets)) x && ltb l labels) 3 h in
+    rw (e, loaded ctx RAX x Size.U8 (first _ _ e), second (isIntegerOperand (length (ctx .offsets)) x) _ e)
+quick-counted ctx labels ret (Instr.Return x) args h =
+    let e = holds (isIntegerOperand (length (ctx .offsets)) x) 4 h in
+    rw (e, loaded ctx (cond (isFloat ret) (xmm 0) RAX) x Size.NoSize e)
+quick-counted ctx labels ret Instr.Comment args h = absurd (h refl)
+
 abbrev pub Some : List Instruction → Type 0
 Some is = length is ≡ 0 → ⊥
 
@@ -426,7 +545,10 @@ open-made ctx labels ret (Instr.Binary d op l r) args h k =
     let e = holds (isIntegerVar (length (ctx .offsets)) d && (isIntegerOperand (length (ctx .offsets)) l && isIntegerOperand (length (ctx .offsets)) r)) (binaryCount op) h in
     let f = second (isIntegerVar (length (ctx .offsets)) d) _ e in
     rw (integral _ d (first _ _ e)) (binary-made ctx d l r op (first _ _ e) (first _ _ f) (second (isIntegerOperand (length (ctx .offsets)) l) _ f) k)
-open-made ctx labels ret (Instr.Cast d x) args h k = absurd (k refl)
+open-made ctx labels ret (Instr.Cast d x) args h k =
+    let e = holds (isIntegerVar (length (ctx .offsets)) d && (isIntegerOperand (length (ctx .offsets)) x && isQuickCast (d .ty .code) x)) 2 h in
+    let f = second (isIntegerVar (length (ctx .offsets)) d) _ e in
+    cast-made ctx d x (first _ _ e) (first _ _ f) (second (isIntegerOperand (length (ctx .offsets)) x) _ f)
 open-made ctx labels ret (Instr.Zero d) args h k = absurd (k refl)
 open-made ctx labels ret (Instr.Call d symbol count) args h k = absurd (k refl)
 open-made ctx labels ret (Instr.Label l) args h k = rw (holds (ltb l labels) 1 h)

@@ -1,5 +1,5 @@
 -- What the `_` of a match on a number leaves.
-use Prim.Native.Nat.{ℕ, zero, suc, _+_}
+use Prim.Native.Nat.{ℕ, zero, suc, _+_, _≤_, _<_}
 use mathlib.Core.Path.{_≡_, refl}
 use mathlib.Core.Bool.{Bool, true, false}
 use mathlib.Core.List.{List, [], _∷_}
@@ -11,9 +11,10 @@ use Rattle.ir.specs.Function.{varOperand, intOperand, floatOperand, boolOperand
 use Rattle.ir.specs.Function.{copyAt, unaryAt, binaryAt, castAt, zeroAt, callAt, labelAt, jumpAt, jumpIfNotAt, returnAt, instrAt}
 use native.Mathlib.Omega.{arith}
 use lib.Dec.{ltb, eqb}
-use Rattle.ir.specs.Types.{noArray}
+use Rattle.ir.specs.Types.{noArray, elementWidth}
+use borrow.Author.Tests.{le-leb, lt-leb, ne-eqb}
 use Rattle.ir.specs.Function.{varAt}
-use Rattle.integers.specs.Integers.{isInteger, isIntegerVar, isIntegerOperand, binaryCount, quickCount}
+use Rattle.integers.specs.Integers.{isInteger, isIntegerVar, isIntegerOperand, binaryCount, quickCount, valueWidth, isVar, isQuickCast}
 
 pub no-integer : (c : ℕ) → (c ≡ 1 → ⊥) → (c ≡ 2 → ⊥) → (c ≡ 3 → ⊥) → (c ≡ 4 → ⊥) → (c ≡ 7 → ⊥) → (c ≡ 8 → ⊥) → (c ≡ 9 → ⊥) → (c ≡ 10 → ⊥) → false ≡ isInteger c
 unfolding isInteger
@@ -66,23 +67,23 @@ constant n s k = go (cellAt s k)
     go (suc (suc (suc (suc (suc (suc n)))))) h0 h2 h4 h5 = refl
 
 -- the instructions that are left to the list makers
-pub left-over : (n labels : ℕ) (s : List ℕ) (k : ℕ) → (cellAt s k ≡ 0 → ⊥) → (cellAt s k ≡ 1 → ⊥) → (cellAt s k ≡ 2 → ⊥) → (cellAt s k ≡ 6 → ⊥) → (cellAt s k ≡ 7 → ⊥) → (cellAt s k ≡ 8 → ⊥) → (cellAt s k ≡ 9 → ⊥) → 0 ≡ quickCount n labels (instrAt s k)
+pub left-over : (n labels : ℕ) (s : List ℕ) (k : ℕ) → (cellAt s k ≡ 0 → ⊥) → (cellAt s k ≡ 1 → ⊥) → (cellAt s k ≡ 2 → ⊥) → (cellAt s k ≡ 3 → ⊥) → (cellAt s k ≡ 6 → ⊥) → (cellAt s k ≡ 7 → ⊥) → (cellAt s k ≡ 8 → ⊥) → (cellAt s k ≡ 9 → ⊥) → 0 ≡ quickCount n labels (instrAt s k)
 unfolding instrAt quickCount
 left-over n labels s k = go (cellAt s k)
   where
-    go : (c : ℕ) → (c ≡ 0 → ⊥) → (c ≡ 1 → ⊥) → (c ≡ 2 → ⊥) → (c ≡ 6 → ⊥) → (c ≡ 7 → ⊥) → (c ≡ 8 → ⊥) → (c ≡ 9 → ⊥)
+    go : (c : ℕ) → (c ≡ 0 → ⊥) → (c ≡ 1 → ⊥) → (c ≡ 2 → ⊥) → (c ≡ 3 → ⊥) → (c ≡ 6 → ⊥) → (c ≡ 7 → ⊥) → (c ≡ 8 → ⊥) → (c ≡ 9 → ⊥)
         → 0 ≡ quickCount n labels (getD (copyAt ∷ unaryAt ∷ binaryAt ∷ castAt ∷ zeroAt ∷ callAt ∷ labelAt ∷ jumpAt ∷ jumpIfNotAt ∷ returnAt ∷ []) c (λ s k. Instr.Comment) s k)
-    go zero h0 h1 h2 h6 h7 h8 h9 = absurd (h0 refl)
-    go (suc zero) h0 h1 h2 h6 h7 h8 h9 = absurd (h1 refl)
-    go (suc (suc zero)) h0 h1 h2 h6 h7 h8 h9 = absurd (h2 refl)
-    go (suc (suc (suc zero))) h0 h1 h2 h6 h7 h8 h9 = refl
-    go (suc (suc (suc (suc zero)))) h0 h1 h2 h6 h7 h8 h9 = refl
-    go (suc (suc (suc (suc (suc zero))))) h0 h1 h2 h6 h7 h8 h9 = refl
-    go (suc (suc (suc (suc (suc (suc zero)))))) h0 h1 h2 h6 h7 h8 h9 = absurd (h6 refl)
-    go (suc (suc (suc (suc (suc (suc (suc zero))))))) h0 h1 h2 h6 h7 h8 h9 = absurd (h7 refl)
-    go (suc (suc (suc (suc (suc (suc (suc (suc zero)))))))) h0 h1 h2 h6 h7 h8 h9 = absurd (h8 refl)
-    go (suc (suc (suc (suc (suc (suc (suc (suc (suc zero))))))))) h0 h1 h2 h6 h7 h8 h9 = absurd (h9 refl)
-    go (suc (suc (suc (suc (suc (suc (suc (suc (suc (suc n)))))))))) h0 h1 h2 h6 h7 h8 h9 = refl
+    go zero h0 h1 h2 h3 h6 h7 h8 h9 = absurd (h0 refl)
+    go (suc zero) h0 h1 h2 h3 h6 h7 h8 h9 = absurd (h1 refl)
+    go (suc (suc zero)) h0 h1 h2 h3 h6 h7 h8 h9 = absurd (h2 refl)
+    go (suc (suc (suc zero))) h0 h1 h2 h3 h6 h7 h8 h9 = absurd (h3 refl)
+    go (suc (suc (suc (suc zero)))) h0 h1 h2 h3 h6 h7 h8 h9 = refl
+    go (suc (suc (suc (suc (suc zero))))) h0 h1 h2 h3 h6 h7 h8 h9 = refl
+    go (suc (suc (suc (suc (suc (suc zero)))))) h0 h1 h2 h3 h6 h7 h8 h9 = absurd (h6 refl)
+    go (suc (suc (suc (suc (suc (suc (suc zero))))))) h0 h1 h2 h3 h6 h7 h8 h9 = absurd (h7 refl)
+    go (suc (suc (suc (suc (suc (suc (suc (suc zero)))))))) h0 h1 h2 h3 h6 h7 h8 h9 = absurd (h8 refl)
+    go (suc (suc (suc (suc (suc (suc (suc (suc (suc zero))))))))) h0 h1 h2 h3 h6 h7 h8 h9 = absurd (h9 refl)
+    go (suc (suc (suc (suc (suc (suc (suc (suc (suc (suc n)))))))))) h0 h1 h2 h3 h6 h7 h8 h9 = refl
 
 -- a variable, by its cells
 two : (k : ℕ) → k + 1 + 1 ≡ k + 2
@@ -99,3 +100,58 @@ array-var n s k h e = rw (h, two k, e)
 pub no-slot : (n : ℕ) (s : List ℕ) (k : ℕ) → ltb (cellAt s k) n ≡ false → false ≡ isIntegerVar n (varAt s k)
 unfolding isIntegerVar
 no-slot n s k h = rw (h)
+
+-- what has no width
+pub no-width : (c : ℕ) → (c ≡ 1 → ⊥) → (c ≡ 2 → ⊥) → (c ≡ 3 → ⊥) → (c ≡ 4 → ⊥) → (c ≡ 5 → ⊥) → (c ≡ 6 → ⊥) → (c ≡ 7 → ⊥) → (c ≡ 8 → ⊥) → (c ≡ 9 → ⊥) → (c ≡ 10 → ⊥) → 0 ≡ elementWidth c
+unfolding elementWidth
+no-width zero h1 h2 h3 h4 h5 h6 h7 h8 h9 h10 = refl
+no-width (suc zero) h1 h2 h3 h4 h5 h6 h7 h8 h9 h10 = absurd (h1 refl)
+no-width (suc (suc zero)) h1 h2 h3 h4 h5 h6 h7 h8 h9 h10 = absurd (h2 refl)
+no-width (suc (suc (suc zero))) h1 h2 h3 h4 h5 h6 h7 h8 h9 h10 = absurd (h3 refl)
+no-width (suc (suc (suc (suc zero)))) h1 h2 h3 h4 h5 h6 h7 h8 h9 h10 = absurd (h4 refl)
+no-width (suc (suc (suc (suc (suc zero))))) h1 h2 h3 h4 h5 h6 h7 h8 h9 h10 = absurd (h5 refl)
+no-width (suc (suc (suc (suc (suc (suc zero)))))) h1 h2 h3 h4 h5 h6 h7 h8 h9 h10 = absurd (h6 refl)
+no-width (suc (suc (suc (suc (suc (suc (suc zero))))))) h1 h2 h3 h4 h5 h6 h7 h8 h9 h10 = absurd (h7 refl)
+no-width (suc (suc (suc (suc (suc (suc (suc (suc zero)))))))) h1 h2 h3 h4 h5 h6 h7 h8 h9 h10 = absurd (h8 refl)
+no-width (suc (suc (suc (suc (suc (suc (suc (suc (suc zero))))))))) h1 h2 h3 h4 h5 h6 h7 h8 h9 h10 = absurd (h9 refl)
+no-width (suc (suc (suc (suc (suc (suc (suc (suc (suc (suc zero)))))))))) h1 h2 h3 h4 h5 h6 h7 h8 h9 h10 = absurd (h10 refl)
+no-width (suc (suc (suc (suc (suc (suc (suc (suc (suc (suc (suc zero))))))))))) h1 h2 h3 h4 h5 h6 h7 h8 h9 h10 = refl
+no-width (suc (suc (suc (suc (suc (suc (suc (suc (suc (suc (suc (suc zero)))))))))))) h1 h2 h3 h4 h5 h6 h7 h8 h9 h10 = refl
+no-width (suc (suc (suc (suc (suc (suc (suc (suc (suc (suc (suc (suc (suc n))))))))))))) h1 h2 h3 h4 h5 h6 h7 h8 h9 h10 = refl
+
+-- the operands of eight bytes
+pub wide-operand : (s : List ℕ) (k : ℕ) → (cellAt s k ≡ 0 → ⊥) → (cellAt s k ≡ 1 → ⊥) → (cellAt s k ≡ 3 → ⊥) → 8 ≡ valueWidth (operandAt s k)
+unfolding operandAt valueWidth
+wide-operand s k = go (cellAt s k)
+  where
+    go : (c : ℕ) → (c ≡ 0 → ⊥) → (c ≡ 1 → ⊥) → (c ≡ 3 → ⊥) → 8 ≡ valueWidth (getD (varOperand ∷ intOperand ∷ floatOperand ∷ boolOperand ∷ addressOperand ∷ dataOperand ∷ []) c (λ s k. IrOp.Null) s k)
+    go zero h0 h1 h3 = absurd (h0 refl)
+    go (suc zero) h0 h1 h3 = absurd (h1 refl)
+    go (suc (suc zero)) h0 h1 h3 = refl
+    go (suc (suc (suc zero))) h0 h1 h3 = absurd (h3 refl)
+    go (suc (suc (suc (suc zero)))) h0 h1 h3 = refl
+    go (suc (suc (suc (suc (suc zero))))) h0 h1 h3 = refl
+    go (suc (suc (suc (suc (suc (suc n)))))) h0 h1 h3 = refl
+
+-- whether an operand is a variable
+is-var : (s : List ℕ) (k : ℕ) → eqb (cellAt s k) 0 ≡ isVar (operandAt s k)
+unfolding operandAt
+is-var s k = go (cellAt s k)
+  where
+    go : (c : ℕ) → eqb c 0 ≡ isVar (getD (varOperand ∷ intOperand ∷ floatOperand ∷ boolOperand ∷ addressOperand ∷ dataOperand ∷ []) c (λ s k. IrOp.Null) s k)
+    go zero = refl
+    go (suc zero) = refl
+    go (suc (suc zero)) = refl
+    go (suc (suc (suc zero))) = refl
+    go (suc (suc (suc (suc zero)))) = refl
+    go (suc (suc (suc (suc (suc zero))))) = refl
+    go (suc (suc (suc (suc (suc (suc n)))))) = ne-eqb (suc (suc (suc (suc (suc (suc n)))))) 0 (λ z. omega (arith, z))
+
+-- a cast by its widths, and by whether it is one of a variable
+pub narrow : (code : ℕ) (x : IrOp) → elementWidth code ≤ valueWidth x → true ≡ isQuickCast code x
+unfolding isQuickCast
+narrow code x h = rw (le-leb (elementWidth code) (valueWidth x) h)
+
+pub wide : (code : ℕ) (s : List ℕ) (k : ℕ) → valueWidth (operandAt s k) < elementWidth code → eqb (cellAt s k) 0 ≡ isQuickCast code (operandAt s k)
+unfolding isQuickCast
+wide code s k h = rw (lt-leb (elementWidth code) (valueWidth (operandAt s k)) h) (is-var s k)

@@ -1,20 +1,21 @@
 -- Instructions on integer variables and constants, which are never refused: the number of their records, and the records.
 use Prim.Native.Nat.{ℕ}
 use mathlib.Core.List.{List, [], _∷_}
-use mathlib.Core.Bool.{Bool, true, false, cond, _&&_}
-use lib.Dec.{eqb, ltb}
+use mathlib.Core.Bool.{Bool, true, false, cond, _&&_, _||_}
+use lib.Dec.{eqb, ltb, leb}
 use lib.ListN.{getD, length}
 use Rattle.cells.specs.Cells.{minus}
 use Rattle.ir.specs.declared.VarId.{VarId}
 use Rattle.ir.specs.declared.Operand.{Operand as IrOp}
 use Rattle.ir.specs.declared.UnaryOp.{UnaryOp}
 use Rattle.ir.specs.declared.Instr.{Instr}
-use Rattle.ir.specs.Types.{isScalar, isUnsigned, elfSize}
+use Rattle.ir.specs.Types.{isScalar, isUnsigned, elementWidth, elfSize}
 use Rattle.x86.specs.declared.register.Register.{Register}
 use Rattle.x86.specs.declared.enums.Size.{Size}
 use Rattle.x86.specs.declared.enums.Operand.{Operand}
 use Rattle.x86.specs.declared.enums.BinOp.{BinOp}
 use Rattle.x86.specs.declared.enums.CtrlOp.{CtrlOp}
+use Rattle.x86.specs.declared.enums.ExtendOp.{ExtendOp}
 use Rattle.x86.specs.declared.enums.ShiftOp.{ShiftOp}
 use Rattle.x86.specs.declared.enums.ComplexBinOp.{ComplexBinOp}
 use Rattle.x86.specs.declared.enums.UnaryOp as elf
@@ -48,12 +49,35 @@ isIntegerOperand n IrOp.Null = true
 unfoldable pub binaryCount : ℕ → ℕ
 binaryCount op = getD (0 ∷ 0 ∷ 3 ∷ 3 ∷ 3 ∷ 5 ∷ 5 ∷ 5 ∷ 5 ∷ 5 ∷ 5 ∷ 4 ∷ 4 ∷ 3 ∷ 3 ∷ 4 ∷ []) op 5
 
+-- the bytes of an operand's value
+unfoldable pub valueWidth : IrOp → ℕ
+valueWidth (IrOp.Var v) = elementWidth (v .ty .code)
+valueWidth (IrOp.Int v short unsigned) = cond short 4 8
+valueWidth (IrOp.Float k) = 8
+valueWidth (IrOp.Bool b) = 1
+valueWidth (IrOp.Address v) = 8
+valueWidth (IrOp.DataAddress k) = 8
+valueWidth IrOp.Null = 8
+
+abbrev pub isVar : IrOp → Bool
+isVar (IrOp.Var v) = true
+isVar (IrOp.Int v short unsigned) = false
+isVar (IrOp.Float k) = false
+isVar (IrOp.Bool b) = false
+isVar (IrOp.Address v) = false
+isVar (IrOp.DataAddress k) = false
+isVar IrOp.Null = false
+
+-- a cast to no more bytes, or of a variable: two records
+unfoldable pub isQuickCast : ℕ → IrOp → Bool
+isQuickCast code x = leb (elementWidth code) (valueWidth x) || isVar x
+
 -- the number of records with n slots and so many labels; 0 for what is left to the list makers
 unfoldable pub quickCount : ℕ → ℕ → Instr → ℕ
 quickCount n labels (Instr.Copy dest src) = cond (isIntegerVar n dest && isIntegerOperand n src) 2 0
 quickCount n labels (Instr.Unary dest op src) = cond (isIntegerVar n dest && isIntegerOperand n src) 3 0
 quickCount n labels (Instr.Binary dest op left right) = cond (isIntegerVar n dest && (isIntegerOperand n left && isIntegerOperand n right)) (binaryCount op) 0
-quickCount n labels (Instr.Cast dest src) = 0
+quickCount n labels (Instr.Cast dest src) = cond (isIntegerVar n dest && (isIntegerOperand n src && isQuickCast (dest .ty .code) src)) 2 0
 quickCount n labels (Instr.Zero dest) = 0
 quickCount n labels (Instr.Call dest symbol count) = 0
 quickCount n labels (Instr.Label l) = cond (ltb l labels) 1 0
@@ -137,6 +161,12 @@ unaryRecord UnaryOp.Not size = Instruction.Binary BinOp.Xor (Operand.Reg RAX) (O
 unfoldable pub unaryList : List ℕ → VarId → UnaryOp → IrOp → List Instruction
 unaryList offsets d op x = load offsets RAX x (elfSize (d .ty)) ∷ unaryRecord op (elfSize (d .ty)) ∷ store offsets d RAX ∷ []
 
+-- as a copy where the low bytes are enough; else one byte is widened with zeros, and four with the sign
+unfoldable pub castList : List ℕ → VarId → IrOp → List Instruction
+castList offsets d x =
+    cond (leb (elementWidth (d .ty .code)) (valueWidth x)) (copyList offsets d x)
+    (cond (eqb (valueWidth x) 1) (load offsets RAX x Size.U8) (Instruction.Extend ExtendOp.Movsxd RAX (operandOf offsets x) Size.U32 Size.U64) ∷ store offsets d RAX ∷ [])
+
 unfoldable pub branchList : List ℕ → IrOp → ℕ → List Instruction
 branchList offsets x l =
     load offsets RAX x Size.U8 ∷ Instruction.Binary BinOp.Cmp (Operand.Reg RAX) (Operand.Imm 0) Size.U8
@@ -157,7 +187,7 @@ unfoldable pub openList : List ℕ → Instr → List Instruction
 openList offsets (Instr.Copy dest src) = copyList offsets dest src
 openList offsets (Instr.Unary dest op src) = unaryList offsets dest op src
 openList offsets (Instr.Binary dest op left right) = binaryList offsets dest op left right
-openList offsets (Instr.Cast dest src) = []
+openList offsets (Instr.Cast dest src) = castList offsets dest src
 openList offsets (Instr.Zero dest) = []
 openList offsets (Instr.Call dest symbol count) = []
 openList offsets (Instr.Label l) = Instruction.Label l ∷ []

@@ -19,6 +19,7 @@ ghost use Rattle.x86.specs.declared.enums.Instruction.{Instruction};
 ghost use Rattle.x86.specs.declared.enums.Size.{Size};
 ghost use Rattle.x86.specs.declared.enums.BinOp.{BinOp};
 ghost use Rattle.x86.specs.declared.enums.ShiftOp.{ShiftOp};
+ghost use Rattle.x86.specs.declared.enums.ExtendOp.{ExtendOp};
 ghost use Rattle.x86.specs.Registers.{gpr, RAX, RCX};
 ghost use Rattle.x86.specs.Records.{tagOf, valueOf, recordOf, cellsRecord, conditionCode, sizeCode, shiftCode};
 ghost use Rattle.x86.specs.Says.{recordSays};
@@ -282,4 +283,13 @@ pub fn unary_record(op: u64, size: Size) -> Record
         1 => cells_record(17, 1, 0, 0, 0, code, 0),
         _ => cells_record(0, 8, 0, 2, 1, code, 0),
     }
+}
+
+// `movsxd rax, src`, of the operand at cell `k`.
+pub fn sign_extended(offsets: &[u64], s: &[u8], k: usize) -> Record
+    requires { ⌜ k + 4 ≤ cells (now s) ⌝ }
+    ensures { λ r. ⌜ recordSays r ≡ recordOf (Instruction.Extend ExtendOp.Movsxd RAX (operandOf (now (offsets .entry)) (operandAt (now (s .entry)) k)) Size.U32 Size.U64) ⌝ }
+{
+    let tag = operand_tag(offsets, s, k);
+    cells_record(7, 1, 0, tag, operand_value(offsets, s, k), 8, 4)
 }

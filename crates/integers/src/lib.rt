@@ -4,14 +4,16 @@ mod cellwise;
 pub mod lists;
 
 use cells::cell_at;
+use ir::read::type_at;
 ghost use mathlib.Core.Path.{_≡_};
 ghost use mathlib.Core.Bool.{cond, _&&_};
 ghost use Prim.Native.Nat.{_+_, _≤_};
-ghost use lib.Dec.{ltb};
+ghost use lib.Dec.{eqb, ltb};
 ghost use lib.ListN.{length};
 ghost use Rattle.cells.specs.Cells.{cells};
-ghost use Rattle.ir.specs.Function.{varAt, operandAt, binaryAt, jumpIfNotAt, instrAt};
-ghost use Rattle.integers.specs.Integers.{isInteger, isIntegerVar, isIntegerOperand, binaryCount, quickCount};
+ghost use Rattle.ir.specs.Types.{elementWidth};
+ghost use Rattle.ir.specs.Function.{varAt, operandAt, binaryAt, castAt, jumpIfNotAt, instrAt};
+ghost use Rattle.integers.specs.Integers.{isInteger, isIntegerVar, isIntegerOperand, binaryCount, quickCount, valueWidth, isQuickCast};
 
 // Integers, Bool, Char, Byte and Address.
 fn is_integer(code: u64) -> bool
@@ -118,6 +120,73 @@ fn count_moved(offsets: &[u64], s: &[u8], k: usize, n: u64) -> u64
     count_if(both(dest, is_integer_operand(offsets, s, k + 5)), n)
 }
 
+// The bytes of an integer by its code, and of an operand's value.
+fn width(code: u64) -> u64
+    ensures { λ r. ⌜ r ≡ elementWidth code ⌝ }
+{
+    match code {
+        1 => 8,
+        2 => 8,
+        3 => 4,
+        4 => 4,
+        5 => 8,
+        6 => 4,
+        7 => 1,
+        8 => 1,
+        9 => 1,
+        10 => 8,
+        _ => 0,
+    }
+}
+
+// .. and of the variable at cell `k`.
+pub fn var_width(s: &[u8], k: usize) -> u64
+    requires { ⌜ k + 3 ≤ cells (now s) ⌝ }
+    ensures { λ r. ⌜ r ≡ elementWidth (varAt (now (s .entry)) k .ty .code) ⌝ }
+{
+    let ty = type_at(s, k + 1);
+    width(ty.code)
+}
+
+pub fn value_width(s: &[u8], k: usize) -> u64
+    requires { ⌜ k + 4 ≤ cells (now s) ⌝ }
+    ensures { λ r. ⌜ r ≡ valueWidth (operandAt (now (s .entry)) k) ⌝ }
+{
+    match cell_at(s, k) {
+        0 => var_width(s, k + 1),
+        1 => short_width(cell_at(s, k + 2)),
+        3 => 1,
+        _ => 8,
+    }
+}
+
+fn short_width(short: u64) -> u64
+    ensures { λ r. ⌜ r ≡ cond (eqb short 1) 4 8 ⌝ }
+{
+    if short == 1 { 4 } else { 8 }
+}
+
+// A cast to no more bytes, or of a variable.
+fn is_quick_cast(s: &[u8], k: usize) -> bool
+    requires { ⌜ k + 13 ≤ cells (now s) ⌝ }
+    ensures { λ r. ⌜ r ≡ isQuickCast (varAt (now (s .entry)) (k + 2) .ty .code) (operandAt (now (s .entry)) (k + 5)) ⌝ }
+{
+    if var_width(s, k + 2) <= value_width(s, k + 5) {
+        true
+    } else {
+        cell_at(s, k + 5) == 0
+    }
+}
+
+fn count_cast(offsets: &[u64], s: &[u8], k: usize, labels: u64) -> u64
+    requires { ⌜ k + 13 ≤ cells (now s) ⌝ }
+    ensures { λ r. ⌜ r ≡ quickCount (length (now (offsets .entry))) labels (castAt (now (s .entry)) k) ⌝ }
+{
+    let dest = is_integer_var(offsets, s, k + 2);
+    let src = is_integer_operand(offsets, s, k + 5);
+    count_if(both(dest, both(src, is_quick_cast(s, k))), 2)
+}
+
 // The number of records of the instruction at cell `k`; 0 where it is left to its list maker.
 pub fn count_instr(offsets: &[u64], s: &[u8], k: usize, labels: u64) -> u64
     requires { ⌜ k + 13 ≤ cells (now s) ⌝ }
@@ -127,6 +196,7 @@ pub fn count_instr(offsets: &[u64], s: &[u8], k: usize, labels: u64) -> u64
         0 => count_moved(offsets, s, k, 2),
         1 => count_moved(offsets, s, k, 3),
         2 => count_binary(offsets, s, k, labels),
+        3 => count_cast(offsets, s, k, labels),
         6 => count_if(cell_at(s, k + 1) < labels, 1),
         7 => count_if(cell_at(s, k + 1) < labels, 1),
         8 => count_branch(offsets, s, k, labels),

@@ -6,12 +6,15 @@ use crate::cellwise::operation;
 use crate::cellwise::pair;
 use crate::cellwise::right_shift;
 use crate::cellwise::set;
+use crate::cellwise::sign_extended;
 use crate::cellwise::size_at;
 use crate::cellwise::store;
 use crate::cellwise::unary_record;
 use crate::cellwise::value_size;
 use crate::cellwise::zero_test;
 use crate::count_instr;
+use crate::value_width;
+use crate::var_width;
 use cells::cell_at;
 use records::put_five;
 use records::put_four;
@@ -20,6 +23,7 @@ use records::put_two;
 use x86::enums::BinOp;
 use x86::enums::ConditionCode;
 use x86::enums::Size;
+use x86::record::Record;
 use x86::record::put_record;
 ghost use mathlib.Core.Path.{_≡_};
 ghost use Prim.Native.Nat.{_+_, _≤_};
@@ -27,8 +31,15 @@ ghost use lib.ListN.{length};
 ghost use Rattle.cells.specs.Cells.{cells, cellAt, write};
 ghost use Rattle.ir.specs.Function.{varAt, operandAt, instrAt, unaryOp};
 ghost use Rattle.records.specs.Records.{bytesOfRecords};
-ghost use Rattle.x86.specs.Records.{listBytes, recordBytes, cellsRecord};
-ghost use Rattle.integers.specs.Integers.{pairRecords, unaryList, copyList, simpleList, comparedList, branchList, binaryList, quickList};
+ghost use mathlib.Core.Bool.{cond};
+ghost use lib.Dec.{eqb};
+ghost use Rattle.x86.specs.declared.enums.Size.{Size};
+ghost use Rattle.x86.specs.declared.enums.ExtendOp.{ExtendOp};
+ghost use Rattle.x86.specs.declared.enums.Instruction.{Instruction};
+ghost use Rattle.x86.specs.Registers.{RAX};
+ghost use Rattle.x86.specs.Says.{recordSays};
+ghost use Rattle.x86.specs.Records.{recordOf, listBytes, recordBytes, cellsRecord};
+ghost use Rattle.integers.specs.Integers.{load, operandOf, castList, pairRecords, unaryList, copyList, simpleList, comparedList, branchList, binaryList, quickList};
 
 fn put_copy(offsets: &[u64], s: &[u8], k: usize, out: &mut [u8], at: usize) -> u64
     requires { ⌜ k + 13 ≤ cells (now s) ⌝ }
@@ -128,6 +139,33 @@ fn put_unary(offsets: &[u64], s: &[u8], k: usize, out: &mut [u8], at: usize) -> 
     3
 }
 
+// The record that widens the operand at cell `k`.
+fn widened(offsets: &[u64], s: &[u8], k: usize, from: u64) -> Record
+    requires { ⌜ k + 4 ≤ cells (now s) ⌝ }
+    ensures { λ r. ⌜ recordSays r ≡ recordOf (cond (eqb from 1) (load (now (offsets .entry)) RAX (operandAt (now (s .entry)) k) Size.U8) (Instruction.Extend ExtendOp.Movsxd RAX (operandOf (now (offsets .entry)) (operandAt (now (s .entry)) k)) Size.U32 Size.U64)) ⌝ }
+{
+    if from == 1 {
+        return load(offsets, s, k, 0, Size::U8);
+    }
+    sign_extended(offsets, s, k)
+}
+
+// A cast, as a copy where the low bytes are enough.
+fn put_cast(offsets: &[u64], s: &[u8], k: usize, out: &mut [u8], at: usize) -> u64
+    requires { ⌜ k + 13 ≤ cells (now s) ⌝ }
+    requires { ⌜ at + 128 ≤ length (now out) ⌝ }
+    ensures { λ r. ⌜ r ≡ 2 ⌝ }
+    ensures { λ r. ⌜ now (out .exit) ≡ write (now (out .entry)) at (listBytes (castList (now (offsets .entry)) (varAt (now (s .entry)) (k + 2)) (operandAt (now (s .entry)) (k + 5)))) ⌝ }
+{
+    let from = value_width(s, k + 5);
+    if var_width(s, k + 2) <= from {
+        return put_copy(offsets, s, k, out, at);
+    }
+    let d = store(offsets, s, k + 2);
+    put_two(out, at, widened(offsets, s, k + 5, from), d);
+    2
+}
+
 // A binary operation, by its number, but a division; room for five records is there.
 fn put_binary(offsets: &[u64], s: &[u8], k: usize, out: &mut [u8], at: usize) -> u64
     requires { ⌜ k + 13 ≤ cells (now s) ⌝ }
@@ -170,6 +208,7 @@ pub fn put_quick(offsets: &[u64], s: &[u8], k: usize, labels: u64, out: &mut [u8
         0 => put_copy(offsets, s, k, out, at),
         1 => put_unary(offsets, s, k, out, at),
         2 => put_binary(offsets, s, k, out, at),
+        3 => put_cast(offsets, s, k, out, at),
         6 => put_label(9, 0, cell_at(s, k + 1), out, at),
         7 => put_label(6, 0, cell_at(s, k + 1), out, at),
         8 => put_branch(offsets, s, k, cell_at(s, k + 1), out, at),
