@@ -524,10 +524,10 @@ fn header(list: &[u8]) -> Read {
 }
 
 // Room for the list, for a sheet and for records. The `ensures` gives the length, which lending an array as a slice needs.
-fn list_room() -> [u8; 1310720]
-    ensures { λ r. ⌜ 1310720 ≡ length r ⌝ }
+fn list_room() -> [u8; 1572864]
+    ensures { λ r. ⌜ 1572864 ≡ length r ⌝ }
 {
-    [0; 1310720]
+    [0; 1572864]
 }
 
 fn sheet_room() -> [u8; 458752]

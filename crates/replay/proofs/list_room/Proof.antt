@@ -3,7 +3,7 @@ use Rattle.replay.proofs.list_room.Statement.{statement}
 use Rattle.replay.proofs.list_room.Tie as tie
 
 returns : tie.Need-returns
-returns c = zeros 1310720
+returns c = zeros 1572864
 
 pub list-room-spec : {M : Type 1} → statement M
 list-room-spec = tie.close (tie.spec returns)
