@@ -70,29 +70,13 @@ static int lower_sheet(const struct sheet_text *sheet) {
     return answer.number == GILTHOREN_ACCEPTED ? 0 : 1;
 }
 
-static bool read_sheet(const char *path, struct sheet_text *sheet) {
-    struct bytes file = {0};
-    struct sheet_error error;
-    FILE *from = fopen(path, "rb");
-    bool good = from && bytes_read(&file, from);
-    if (from) fclose(from);
-    if (!good) {
-        fprintf(stderr, "%s: cannot be read\n", path);
-    } else if (!sheet_take(sheet, &file, &error)) {
-        fprintf(stderr, "%s: line %zu: %s\n", path, error.line, error.message);
-        good = false;
-    }
-    bytes_clear(&file);
-    return good;
-}
-
 int main(int count, char **words) {
     struct sheet_text sheet = {0};
     if (count != 2) {
         fputs("usage: lower SHEET\n", stderr);
         return 2;
     }
-    int status = read_sheet(words[1], &sheet) ? lower_sheet(&sheet) : 2;
+    int status = sheet_open(&sheet, words[1], "") ? lower_sheet(&sheet) : 2;
     sheet_clear(&sheet);
     return status;
 }

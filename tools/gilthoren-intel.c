@@ -111,23 +111,6 @@ static int show(struct listing *l) {
     return fails(l, "expected 'ok' and a count, 'refused' with number and place, or 'too long'");
 }
 
-/* Reads the file that gives names and slots. */
-static bool take_names(const char *path, struct sheet_text *sheet) {
-    struct bytes file = {0};
-    struct sheet_error error;
-    FILE *from = fopen(path, "rb");
-    bool good = from && bytes_read(&file, from);
-    if (from) fclose(from);
-    if (!good) {
-        fprintf(stderr, "gilthoren-intel: %s: cannot be read\n", path);
-    } else if (!sheet_take(sheet, &file, &error)) {
-        fprintf(stderr, "gilthoren-intel: %s: line %zu: %s\n", path, error.line, error.message);
-        good = false;
-    }
-    bytes_clear(&file);
-    return good;
-}
-
 int main(int count, char **words) {
     struct listing l = {.number = 0};
     struct sheet_text sheet = {0};
@@ -136,7 +119,7 @@ int main(int count, char **words) {
         return 2;
     }
     if (count == 2) l.sheet = &sheet;
-    int status = count == 2 && !take_names(words[1], &sheet) ? 1 : show(&l);
+    int status = count == 2 && !sheet_open(&sheet, words[1], "gilthoren-intel: ") ? 1 : show(&l);
     if (status == 0 && !bytes_write(&l.text, stdout)) status = fails(&l, "cannot write");
     bytes_clear(&l.text);
     sheet_clear(&sheet);

@@ -1,6 +1,7 @@
 /* What reading and writing of sheets share: words, sizes, names, the parts of an input. */
 #include "sheet_text.h"
 
+#include <stdio.h>
 #include <string.h>
 
 const char *const sheet_type_words[SHEET_TYPES] = {"none",       "long", "ulong", "short", "ushort",  "float", "shortfloat",
@@ -49,6 +50,22 @@ bool sheet_take(struct sheet_text *sheet, const struct bytes *file, struct sheet
     if (first == 0 || !memchr(file->at, 0, first)) return sheet_read(sheet, (const char *)file->at, file->count, error);
     bytes_add(&sheet->input, file->at, file->count);
     return true;
+}
+
+bool sheet_open(struct sheet_text *sheet, const char *path, const char *before) {
+    struct bytes file = {0};
+    struct sheet_error error;
+    FILE *from = fopen(path, "rb");
+    bool good = from && bytes_read(&file, from);
+    if (from) fclose(from);
+    if (!good) {
+        fprintf(stderr, "%s%s: cannot be read\n", before, path);
+    } else if (!sheet_take(sheet, &file, &error)) {
+        fprintf(stderr, "%s%s: line %zu: %s\n", before, path, error.line, error.message);
+        good = false;
+    }
+    bytes_clear(&file);
+    return good;
 }
 
 static void names_clear(struct sheet_names *names) {

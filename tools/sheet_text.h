@@ -41,6 +41,9 @@ struct sheet_refusal {
 bool sheet_read(struct sheet_text *sheet, const char *text, size_t bytes, struct sheet_error *error);
 /* Takes cells or text, whichever the bytes are: cells have a zero among their first eight bytes, a text has none. */
 bool sheet_take(struct sheet_text *sheet, const struct bytes *file, struct sheet_error *error);
+
+/* The same of the file at a path; what is wrong with it is said on standard error, behind `before`. */
+bool sheet_open(struct sheet_text *sheet, const char *path, const char *before);
 void sheet_clear(struct sheet_text *sheet);
 
 /* Writes an input as text, in words if tables and sheet are readable, else as raw cells. The answer says which. */
