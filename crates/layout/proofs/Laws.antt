@@ -225,12 +225,12 @@ types-total s (suc n) total c e h =
 
 -- ---- instructions
 
-dest-right : (s : List ℕ) (has : Bool) (c : Cursor) {d : Cursor} → destCheck s has c ≡ Checked.Behind d → (d .at ≡ c .at + 3) × (c .at ≤ cells s → d .at ≤ cells s)
+pub dest-right : (s : List ℕ) (has : Bool) (c : Cursor) {d : Cursor} → destCheck s has c ≡ Checked.Behind d → (d .at ≡ c .at + 3) × (c .at ≤ cells s → d .at ≤ cells s)
 unfolding destCheck
 dest-right s true c e = let p = var-right s c e in (p .0, λ h. omega (arith, p .1 .there))
 dest-right s false c e = zeros-right s 3 c e
 
-side-right : (s : List ℕ) (has : Bool) (c : Cursor) {d : Cursor} → sideCheck s has c ≡ Checked.Behind d → (d .at ≡ c .at + 4) × (c .at ≤ cells s → d .at ≤ cells s)
+pub side-right : (s : List ℕ) (has : Bool) (c : Cursor) {d : Cursor} → sideCheck s has c ≡ Checked.Behind d → (d .at ≡ c .at + 4) × (c .at ≤ cells s → d .at ≤ cells s)
 unfolding sideCheck
 side-right s true c e = let p = operand-right s c e in (p .0, λ h. omega (arith, p .1 .there))
 side-right s false c e = zeros-right s 4 c e

@@ -1,3 +1,4 @@
 pub mod Laws
 pub mod Passed
+pub mod Short
 pub mod Turns

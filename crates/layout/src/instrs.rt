@@ -1,6 +1,7 @@
 // Instructions: position in Krc's `Instr`, operation, dest (3), left (4), right (4); a call's arguments follow.
 use crate::Checked;
 use crate::Limited;
+use crate::laid::is_laid;
 use crate::parts::LARGEST;
 use crate::parts::limited;
 use crate::parts::operand_check;
@@ -13,7 +14,7 @@ ghost use mathlib.Core.Path.{_≡_};
 ghost use Rattle.layout.specs.Layout.{operationMost, hasDest, hasLeft, destCheck, sideCheck, callCheck, bodyCheck, instrCheck, instrsCheck};
 
 // The largest operation of a kind.
-fn operation_most(kind: u64) -> u64
+pub(crate) fn operation_most(kind: u64) -> u64
     ensures { λ r. ⌜ r ≡ operationMost kind ⌝ }
 {
     match kind {
@@ -26,7 +27,7 @@ fn operation_most(kind: u64) -> u64
 }
 
 // The first five kinds have a dest, and a call whose operation is 1.
-fn has_dest(kind: u64, operation: u64) -> bool
+pub(crate) fn has_dest(kind: u64, operation: u64) -> bool
     ensures { λ r. ⌜ r ≡ hasDest kind operation ⌝ }
 {
     if kind < 5 {
@@ -36,7 +37,7 @@ fn has_dest(kind: u64, operation: u64) -> bool
 }
 
 // One-operand kinds use left, and a Binary.
-fn has_left(kind: u64) -> bool
+pub(crate) fn has_left(kind: u64) -> bool
     ensures { λ r. ⌜ r ≡ hasLeft kind ⌝ }
 {
     if kind < 4 {
@@ -121,12 +122,16 @@ pub fn instrs_check(s: &[u8], n: u64, c: Cursor) -> Checked
     let mut left = n;
     let mut here = c;
     while 0 < left {
-        match instr_check(s, here) {
-            Checked::Behind(next) => {
-                here = next;
-            }
-            Checked::Refused(number, k) => {
-                return Checked::Refused(number, k);
+        if is_laid(s, here.at) {
+            here = Cursor { at: here.at + 13 };
+        } else {
+            match instr_check(s, here) {
+                Checked::Behind(next) => {
+                    here = next;
+                }
+                Checked::Refused(number, k) => {
+                    return Checked::Refused(number, k);
+                }
             }
         }
         left -= 1;

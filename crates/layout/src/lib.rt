@@ -1,6 +1,7 @@
 // The layout of tables and sheet: the first wrong cell in reading order, with refusal 1, 2 or 3. Every cell is read once, but for a variable's
 // type, which is read again for its bytes.
 pub mod instrs;
+mod laid;
 pub mod parts;
 pub mod sheet;
 pub mod tables;

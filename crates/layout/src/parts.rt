@@ -140,7 +140,7 @@ pub fn var_check(s: &[u8], c: Cursor) -> Checked
 }
 
 // The bounds of an operand's fields, by its position in Krc's `Operand`.
-fn first_field(kind: u64) -> u64
+pub(crate) fn first_field(kind: u64) -> u64
     ensures { λ r. ⌜ r ≡ firstField kind ⌝ }
 {
     match kind {
@@ -151,7 +151,7 @@ fn first_field(kind: u64) -> u64
     }
 }
 
-fn flag_field(kind: u64) -> u64
+pub(crate) fn flag_field(kind: u64) -> u64
     ensures { λ r. ⌜ r ≡ flagField kind ⌝ }
 {
     if kind == 1 { 1 } else { 0 }

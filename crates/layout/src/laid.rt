@@ -1,0 +1,141 @@
+// Whether the cells of an instruction that is no call are right: a short way over cells that are all there, without cursors.
+use crate::instrs::has_dest;
+use crate::instrs::has_left;
+use crate::instrs::operation_most;
+use crate::parts::LARGEST;
+use crate::parts::MOST_BYTES;
+use crate::parts::first_field;
+use crate::parts::flag_field;
+use cells::cell_at;
+use ir::Type;
+ghost use mathlib.Core.Path.{_≡_};
+ghost use Prim.Native.Nat.{_+_, _≤_};
+ghost use Rattle.cells.specs.Cells.{cells};
+ghost use Rattle.layout.specs.Layout.{cursor, fieldsCheck, typeCheck, varCheck, operandCheck, destCheck, sideCheck};
+ghost use Rattle.layout.specs.Laid.{accepts, isLaid};
+
+// A code from 1 to 12; then -1, or a count within its limit.
+fn type_laid(s: &[u8], k: usize) -> bool
+    requires { ⌜ k + 2 ≤ cells (now s) ⌝ }
+    ensures { λ r. ⌜ r ≡ accepts (typeCheck (now (s .entry)) (cursor k)) ⌝ }
+{
+    let code = cell_at(s, k);
+    if code < 1 {
+        return false;
+    }
+    if 12 < code {
+        return false;
+    }
+    let count = cell_at(s, k + 1);
+    if count == Type::NO_ARRAY {
+        return true;
+    }
+    count <= MOST_BYTES
+}
+
+// An id that is not negative, and a type.
+fn var_laid(s: &[u8], k: usize) -> bool
+    requires { ⌜ k + 3 ≤ cells (now s) ⌝ }
+    ensures { λ r. ⌜ r ≡ accepts (varCheck (now (s .entry)) (cursor k)) ⌝ }
+{
+    if LARGEST < cell_at(s, k) {
+        return false;
+    }
+    type_laid(s, k + 1)
+}
+
+// Three cells, each at most its own bound.
+fn fields_laid(s: &[u8], k: usize, x: u64, y: u64, z: u64) -> bool
+    requires { ⌜ k + 3 ≤ cells (now s) ⌝ }
+    ensures { λ r. ⌜ r ≡ accepts (fieldsCheck (now (s .entry)) (cursor k) x y z) ⌝ }
+{
+    if x < cell_at(s, k) {
+        return false;
+    }
+    if y < cell_at(s, k + 1) {
+        return false;
+    }
+    cell_at(s, k + 2) <= z
+}
+
+// The four cells of an operand, by its kind.
+fn operand_laid(s: &[u8], k: usize) -> bool
+    requires { ⌜ k + 4 ≤ cells (now s) ⌝ }
+    ensures { λ r. ⌜ r ≡ accepts (operandCheck (now (s .entry)) (cursor k)) ⌝ }
+{
+    let kind = cell_at(s, k);
+    if 6 < kind {
+        return false;
+    }
+    match kind {
+        0 => var_laid(s, k + 1),
+        4 => var_laid(s, k + 1),
+        _ => {
+            let flag = flag_field(kind);
+            fields_laid(s, k + 1, first_field(kind), flag, flag)
+        }
+    }
+}
+
+// A dest, or three unused cells.
+fn dest_laid(s: &[u8], has: bool, k: usize) -> bool
+    requires { ⌜ k + 3 ≤ cells (now s) ⌝ }
+    ensures { λ r. ⌜ r ≡ accepts (destCheck (now (s .entry)) has (cursor k)) ⌝ }
+{
+    if has {
+        var_laid(s, k)
+    } else {
+        fields_laid(s, k, 0, 0, 0)
+    }
+}
+
+// An operand, or four unused cells.
+fn side_laid(s: &[u8], has: bool, k: usize) -> bool
+    requires { ⌜ k + 4 ≤ cells (now s) ⌝ }
+    ensures { λ r. ⌜ r ≡ accepts (sideCheck (now (s .entry)) has (cursor k)) ⌝ }
+{
+    if has {
+        return operand_laid(s, k);
+    }
+    if 0 < cell_at(s, k) {
+        return false;
+    }
+    fields_laid(s, k + 1, 0, 0, 0)
+}
+
+// The 13 cells of an instruction that is no call.
+fn cells_laid(s: &[u8], k: usize) -> bool
+    requires { ⌜ k + 13 ≤ cells (now s) ⌝ }
+    ensures { λ r. ⌜ r ≡ isLaid (now (s .entry)) k ⌝ }
+{
+    let kind = cell_at(s, k);
+    if kind == 5 {
+        return false;
+    }
+    if 10 < kind {
+        return false;
+    }
+    let operation = cell_at(s, k + 1);
+    if operation_most(kind) < operation {
+        return false;
+    }
+    if dest_laid(s, has_dest(kind, operation), k + 2) {
+        if side_laid(s, has_left(kind), k + 5) {
+            return side_laid(s, kind == 2, k + 9);
+        }
+    }
+    false
+}
+
+// An instruction that is no call, with all its cells there.
+pub fn is_laid(s: &[u8], k: usize) -> bool
+    ensures { λ r. ⌜ r ≡ isLaid (now (s .entry)) k ⌝ }
+{
+    let all = s.len() / 8;
+    if 13 <= all {
+        if k <= all - 13 {
+            return cells_laid(s, k);
+        }
+    }
+    false
+}
