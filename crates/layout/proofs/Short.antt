@@ -4,7 +4,7 @@ use mathlib.Core.Path.{_≡_, refl, sym, ap, _∙_}
 use mathlib.Core.Bool.{Bool, true, false, cond, _&&_, _||_}
 use mathlib.Core.List.{List}
 use native.Mathlib.Omega.{arith}
-use borrow.Author.Tests.{ltb-true, ltb-false, lt-ltb, le-ltb, le-leb, lt-leb, eqb-false}
+use borrow.Author.Tests.{ltb-true, ltb-false, lt-ltb, le-ltb, le-leb, lt-leb, ne-eqb, eqb-false}
 use lib.Dec.{ltb, leb, eqb}
 use Rattle.cells.specs.Cells.{cells, cellAt, largest, readCell, readWithin, bindCell}
 use Rattle.cells.specs.declared.Cursor.{Cursor}
@@ -121,7 +121,7 @@ unused-laid s k h = most-laid s k (omega arith) 0 _
 -- ---- instructions
 
 -- the parts of an instruction that is no call
-pub instr-laid : (s : List ℕ) (k : ℕ) → k + 13 ≤ cells s →
+instr-laid : (s : List ℕ) (k : ℕ) → k + 13 ≤ cells s →
     isLaid s k
     ≡ cond (eqb (cellAt s k) 5) false (cond (ltb 10 (cellAt s k)) false (cond (ltb (operationMost (cellAt s k)) (cellAt s (k + 1))) false
     (accepts (destCheck s (hasDest (cellAt s k) (cellAt s (k + 1))) (cursor (k + 2)))
@@ -160,6 +160,27 @@ instr-laid s k h = go (eqb n 5) refl
         ∙ ap (cond (ltb 10 n) false)
         (most-laid s (k + 1) (omega arith) (operationMost n) _
         ∙ ap (cond (ltb (operationMost n) op) false) (rw two (parts p)))
+
+-- the same by its kind n, which has a dest and a left, or no right
+pub moved-laid : (s : List ℕ) (k n : ℕ) → k + 13 ≤ cells s → n ≡ cellAt s k → n < 4 →
+    isLaid s k
+    ≡ cond (ltb (operationMost n) (cellAt s (k + 1))) false
+    (accepts (varCheck s (cursor (k + 2)))
+    && (accepts (operandCheck s (cursor (k + 5))) && accepts (cond (eqb n 2) (operandCheck s (cursor (k + 9))) (zerosCheck s 4 (cursor (k + 9))))))
+unfolding destCheck sideCheck
+moved-laid s k n h e l =
+    let five : (n ≡ 5 → ⊥) = λ f. omega arith in
+    instr-laid s k h ∙ rw (← e, ne-eqb n 5 five, le-ltb 10 n (omega arith), lt-ltb n 5 (omega arith), lt-ltb n 4 l) refl
+
+pub other-laid : (s : List ℕ) (k n : ℕ) → k + 13 ≤ cells s → n ≡ cellAt s k → 4 ≤ n →
+    isLaid s k
+    ≡ cond (eqb n 5) false (cond (ltb 10 n) false (cond (ltb (operationMost n) (cellAt s (k + 1))) false
+    (accepts (destCheck s (hasDest n (cellAt s (k + 1))) (cursor (k + 2)))
+    && (accepts (sideCheck s (hasLeft n) (cursor (k + 5))) && accepts (zerosCheck s 4 (cursor (k + 9)))))))
+unfolding sideCheck
+other-laid s k n h e l =
+    let two : (n ≡ 2 → ⊥) = λ f. omega arith in
+    instr-laid s k h ∙ rw (← e, ne-eqb n 2 two) refl
 
 -- an answer for an instruction that is no call
 module _ (s : List ℕ) (c : Cursor) where

@@ -5,13 +5,12 @@ use crate::instrs::operation_most;
 use crate::parts::LARGEST;
 use crate::parts::MOST_BYTES;
 use crate::parts::first_field;
-use crate::parts::flag_field;
 use cells::cell_at;
 use ir::Type;
 ghost use mathlib.Core.Path.{_≡_};
-ghost use Prim.Native.Nat.{_+_, _≤_};
-ghost use Rattle.cells.specs.Cells.{cells};
-ghost use Rattle.layout.specs.Layout.{cursor, fieldsCheck, typeCheck, varCheck, operandCheck, destCheck, sideCheck};
+ghost use Prim.Native.Nat.{_+_, _≤_, _<_};
+ghost use Rattle.cells.specs.Cells.{cells, cellAt};
+ghost use Rattle.layout.specs.Layout.{cursor, zerosCheck, fieldsCheck, typeCheck, varCheck, operandCheck, destCheck, sideCheck};
 ghost use Rattle.layout.specs.Laid.{accepts, isLaid};
 
 // A code from 1 to 12; then -1, or a count within its limit.
@@ -49,13 +48,29 @@ fn fields_laid(s: &[u8], k: usize, x: u64, y: u64, z: u64) -> bool
     requires { ⌜ k + 3 ≤ cells (now s) ⌝ }
     ensures { λ r. ⌜ r ≡ accepts (fieldsCheck (now (s .entry)) (cursor k) x y z) ⌝ }
 {
-    if x < cell_at(s, k) {
+    let c1 = cell_at(s, k);
+    let c2 = cell_at(s, k + 1);
+    let c3 = cell_at(s, k + 2);
+    if x < c1 {
         return false;
     }
-    if y < cell_at(s, k + 1) {
+    if y < c2 {
         return false;
     }
-    cell_at(s, k + 2) <= z
+    c3 <= z
+}
+
+// Four unused cells.
+fn unused_laid(s: &[u8], k: usize) -> bool
+    requires { ⌜ k + 4 ≤ cells (now s) ⌝ }
+    ensures { λ r. ⌜ r ≡ accepts (zerosCheck (now (s .entry)) 4 (cursor k)) ⌝ }
+{
+    let c1 = cell_at(s, k);
+    let rest = fields_laid(s, k + 1, 0, 0, 0);
+    if 0 < c1 {
+        return false;
+    }
+    rest
 }
 
 // The four cells of an operand, by its kind.
@@ -64,15 +79,15 @@ fn operand_laid(s: &[u8], k: usize) -> bool
     ensures { λ r. ⌜ r ≡ accepts (operandCheck (now (s .entry)) (cursor k)) ⌝ }
 {
     let kind = cell_at(s, k);
-    if 6 < kind {
-        return false;
-    }
     match kind {
         0 => var_laid(s, k + 1),
+        1 => fields_laid(s, k + 1, 0xffff_ffff_ffff_ffff, 1, 1),
         4 => var_laid(s, k + 1),
         _ => {
-            let flag = flag_field(kind);
-            fields_laid(s, k + 1, first_field(kind), flag, flag)
+            if 6 < kind {
+                return false;
+            }
+            fields_laid(s, k + 1, first_field(kind), 0, 0)
         }
     }
 }
@@ -95,20 +110,36 @@ fn side_laid(s: &[u8], has: bool, k: usize) -> bool
     ensures { λ r. ⌜ r ≡ accepts (sideCheck (now (s .entry)) has (cursor k)) ⌝ }
 {
     if has {
-        return operand_laid(s, k);
+        operand_laid(s, k)
+    } else {
+        unused_laid(s, k)
     }
-    if 0 < cell_at(s, k) {
-        return false;
-    }
-    fields_laid(s, k + 1, 0, 0, 0)
 }
 
-// The 13 cells of an instruction that is no call.
-fn cells_laid(s: &[u8], k: usize) -> bool
-    requires { ⌜ k + 13 ≤ cells (now s) ⌝ }
+// The 13 cells of a kind below 4: it has a dest and a left.
+fn moved_laid(s: &[u8], k: usize, kind: u64) -> bool
+    requires { ⌜ (k + 13 ≤ cells (now s)) × (kind ≡ cellAt (now s) k) × (kind < 4) ⌝ }
     ensures { λ r. ⌜ r ≡ isLaid (now (s .entry)) k ⌝ }
 {
-    let kind = cell_at(s, k);
+    if operation_most(kind) < cell_at(s, k + 1) {
+        return false;
+    }
+    if var_laid(s, k + 2) {
+        if operand_laid(s, k + 5) {
+            if kind == 2 {
+                return operand_laid(s, k + 9);
+            }
+            return unused_laid(s, k + 9);
+        }
+    }
+    false
+}
+
+// The 13 cells of any other kind that is no call: it has no right.
+fn other_laid(s: &[u8], k: usize, kind: u64) -> bool
+    requires { ⌜ (k + 13 ≤ cells (now s)) × (kind ≡ cellAt (now s) k) × (4 ≤ kind) ⌝ }
+    ensures { λ r. ⌜ r ≡ isLaid (now (s .entry)) k ⌝ }
+{
     if kind == 5 {
         return false;
     }
@@ -121,7 +152,7 @@ fn cells_laid(s: &[u8], k: usize) -> bool
     }
     if dest_laid(s, has_dest(kind, operation), k + 2) {
         if side_laid(s, has_left(kind), k + 5) {
-            return side_laid(s, kind == 2, k + 9);
+            return unused_laid(s, k + 9);
         }
     }
     false
@@ -134,7 +165,11 @@ pub fn is_laid(s: &[u8], k: usize) -> bool
     let all = s.len() / 8;
     if 13 <= all {
         if k <= all - 13 {
-            return cells_laid(s, k);
+            let kind = cell_at(s, k);
+            if kind < 4 {
+                return moved_laid(s, k, kind);
+            }
+            return other_laid(s, k, kind);
         }
     }
     false

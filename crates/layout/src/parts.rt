@@ -151,7 +151,7 @@ pub(crate) fn first_field(kind: u64) -> u64
     }
 }
 
-pub(crate) fn flag_field(kind: u64) -> u64
+fn flag_field(kind: u64) -> u64
     ensures { λ r. ⌜ r ≡ flagField kind ⌝ }
 {
     if kind == 1 { 1 } else { 0 }

@@ -4,23 +4,35 @@ use borrow.Author.Needs.{needs}
 use Rattle.layout.proofs.laid.is_laid.Statement.{statement}
 use Rattle.layout.proofs.laid.is_laid.Tie as tie
 
-cells-laid-requires : tie.Need-cells-laid-requires
-cells-laid-requires c κs = search needs
+cell-at-requires : tie.Need-cell-at-requires
+cell-at-requires c κs = search needs
+
+moved-laid-requires : tie.Need-moved-laid-requires
+moved-laid-requires c κs = search needs
 
 returns : tie.Need-returns
-returns c = c .cells-laid .ensures
+returns c = c .moved-laid .ensures
+
+other-laid-requires : tie.Need-other-laid-requires
+other-laid-requires c κs = search needs
 
 returns-2 : tie.Need-returns-2
-returns-2 c = missing _ _ (omega arith)
+returns-2 c = c .other-laid .ensures
 
 returns-3 : tie.Need-returns-3
 returns-3 c = missing _ _ (omega arith)
+
+returns-4 : tie.Need-returns-4
+returns-4 c = missing _ _ (omega arith)
 
 pub is-laid-spec : {M : Type 1} → statement M
 is-laid-spec =
     tie.close
     (tie.spec
-    cells-laid-requires
+    cell-at-requires
+    moved-laid-requires
     returns
+    other-laid-requires
     returns-2
-    returns-3)
+    returns-3
+    returns-4)
