@@ -19,11 +19,13 @@ use Rattle.layout.proofs.Laws.{dest-right, side-right, instr-right}
 -- ---- what follows a cell that is there, or a part
 
 module _ (s : List ℕ) (k : ℕ) (h : k < cells s) where
-  pub read-there : readCell s (cursor k) ≡ Cell.Word (cellAt s k) (cursor (k + 1))
+  -- the cell and the cursor behind it
+  read-there : readCell s (cursor k) ≡ Cell.Word (cellAt s k) (cursor (k + 1))
   unfolding readCell
   read-there = simp (lt-ltb _ _ h)
 
-  pub within-laid : (low high : ℕ) (f : ℕ → Cursor → Checked) →
+  -- a cell within its bounds
+  within-laid : (low high : ℕ) (f : ℕ → Cursor → Checked) →
       accepts (bindCell (Checked.Refused 2) (readWithin s (cursor k) low high) f)
       ≡ cond (ltb (cellAt s k) low) false (cond (ltb high (cellAt s k)) false (accepts (f (cellAt s k) (cursor (k + 1)))))
   unfolding readWithin
@@ -36,15 +38,15 @@ module _ (s : List ℕ) (k : ℕ) (h : k < cells s) where
       go false true = refl
       go false false = refl
 
-  -- where the least number is 0
-  pub most-laid : (high : ℕ) (f : ℕ → Cursor → Checked) →
+  -- the same where the least number is 0
+  most-laid : (high : ℕ) (f : ℕ → Cursor → Checked) →
       accepts (bindCell (Checked.Refused 2) (readWithin s (cursor k) 0 high) f)
       ≡ cond (ltb high (cellAt s k)) false (accepts (f (cellAt s k) (cursor (k + 1))))
   most-laid high f =
       let l : ltb (cellAt s k) 0 ≡ false = le-ltb (cellAt s k) 0 (omega arith) in
       within-laid 0 high f ∙ rw l refl
 
--- a part whose end is known
+-- what follows a part whose end is known
 bind-laid : (x : Checked) (f : Cursor → Checked) (m : ℕ) → ((d : Cursor) → x ≡ Checked.Behind d → d .at ≡ m) →
     accepts (bindChecked x f) ≡ (accepts x && accepts (f (cursor m)))
 bind-laid (Checked.Behind d) f m l = ap (λ (j : ℕ). accepts (f (cursor j))) (l d refl)
@@ -60,6 +62,7 @@ at-most a b = go (ltb b a) refl
     go true p = sym (lt-leb a b (ltb-true _ _ p))
     go false p = sym (le-leb a b (ltb-false _ _ p))
 
+-- the count of a type
 count-laid : (s : List ℕ) (k : ℕ) → k < cells s → accepts (countCheck s (cursor k)) ≡ cond (eqb (cellAt s k) noArray) true (leb (cellAt s k) 1048576)
 unfolding countCheck
 count-laid s k h = rw (read-there s k h) (go (eqb v noArray) (ltb 1048576 v) refl)
@@ -68,7 +71,8 @@ count-laid s k h = rw (read-there s k h) (go (eqb v noArray) (ltb 1048576 v) ref
     v = cellAt s k
 
     go : (a b : Bool) → ltb 1048576 v ≡ b →
-        accepts (cond a (Checked.Behind (cursor (k + 1))) (cond (ltb largest v) (Checked.Refused 2 k) (cond b (Checked.Refused 3 k) (Checked.Behind (cursor (k + 1))))))
+        accepts (cond a (Checked.Behind (cursor (k + 1))) (cond (ltb largest v) (Checked.Refused 2 k)
+        (cond b (Checked.Refused 3 k) (Checked.Behind (cursor (k + 1))))))
         ≡ cond a true (leb v 1048576)
     go true b p = refl
     go false true p = refuses (ltb largest v) ∙ sym (lt-leb v 1048576 (ltb-true _ _ p))
@@ -80,12 +84,14 @@ count-laid s k h = rw (read-there s k h) (go (eqb v noArray) (ltb 1048576 v) ref
         let l : v ≤ 1048576 = ltb-false _ _ p in
         rw (le-ltb largest v (omega arith)) (sym (le-leb v 1048576 l))
 
+-- a code and a count
 pub type-laid : (s : List ℕ) (k : ℕ) → k + 2 ≤ cells s →
     accepts (typeCheck s (cursor k))
     ≡ cond (ltb (cellAt s k) 1) false (cond (ltb 12 (cellAt s k)) false (cond (eqb (cellAt s (k + 1)) noArray) true (leb (cellAt s (k + 1)) 1048576)))
 unfolding typeCheck
 type-laid s k h = within-laid s k (omega arith) 1 12 _ ∙ rw (count-laid s (k + 1) (omega arith)) refl
 
+-- three cells and their bounds
 pub fields-laid : (s : List ℕ) (k x y z : ℕ) → k + 3 ≤ cells s →
     accepts (fieldsCheck s (cursor k) x y z)
     ≡ cond (ltb x (cellAt s k)) false (cond (ltb y (cellAt s (k + 1))) false (leb (cellAt s (k + 2)) z))
@@ -100,11 +106,13 @@ fields-laid s k x y z h =
 
 -- ---- variables and operands
 
+-- an id and a type
 pub var-laid : (s : List ℕ) (k : ℕ) → k + 3 ≤ cells s →
     accepts (varCheck s (cursor k)) ≡ cond (ltb largest (cellAt s k)) false (accepts (typeCheck s (cursor (k + 1))))
 unfolding varCheck
 var-laid s k h = most-laid s k (omega arith) largest _
 
+-- a kind, and a variable or three fields
 pub operand-laid : (s : List ℕ) (k : ℕ) → k + 4 ≤ cells s →
     accepts (operandCheck s (cursor k))
     ≡ cond (ltb 6 (cellAt s k)) false (accepts (cond (eqb (cellAt s k) 0 || eqb (cellAt s k) 4) (varCheck s (cursor (k + 1)))
@@ -112,7 +120,7 @@ pub operand-laid : (s : List ℕ) (k : ℕ) → k + 4 ≤ cells s →
 unfolding operandCheck
 operand-laid s k h = most-laid s k (omega arith) 6 _
 
--- four unused cells
+-- four unused cells: one, and three behind it
 pub unused-laid : (s : List ℕ) (k : ℕ) → k + 4 ≤ cells s →
     accepts (zerosCheck s 4 (cursor k)) ≡ cond (ltb 0 (cellAt s k)) false (accepts (fieldsCheck s (cursor (k + 1)) 0 0 0))
 unfolding zerosCheck fieldsCheck
@@ -120,7 +128,7 @@ unused-laid s k h = most-laid s k (omega arith) 0 _
 
 -- ---- instructions
 
--- the parts of an instruction that is no call
+-- kind, operation, dest, left and right of an instruction that is no call
 instr-laid : (s : List ℕ) (k : ℕ) → k + 13 ≤ cells s →
     isLaid s k
     ≡ cond (eqb (cellAt s k) 5) false (cond (ltb 10 (cellAt s k)) false (cond (ltb (operationMost (cellAt s k)) (cellAt s (k + 1))) false
@@ -135,7 +143,9 @@ instr-laid s k h = go (eqb n 5) refl
     op : ℕ
     op = cellAt s (k + 1)
 
-    sides : eqb n 5 ≡ false → accepts (bodyCheck s n (cursor (k + 5))) ≡ (accepts (sideCheck s (hasLeft n) (cursor (k + 5))) && accepts (sideCheck s (eqb n 2) (cursor (k + 9))))
+    sides : eqb n 5 ≡ false →
+        accepts (bodyCheck s n (cursor (k + 5)))
+        ≡ (accepts (sideCheck s (hasLeft n) (cursor (k + 5))) && accepts (sideCheck s (eqb n 2) (cursor (k + 9))))
     sides p =
         rw p
         (bind-laid (sideCheck s (hasLeft n) (cursor (k + 5))) _ (k + 9) (λ d e. let z = side-right s (hasLeft n) (cursor (k + 5)) e in omega arith))
@@ -161,7 +171,7 @@ instr-laid s k h = go (eqb n 5) refl
         (most-laid s (k + 1) (omega arith) (operationMost n) _
         ∙ ap (cond (ltb (operationMost n) op) false) (rw two (parts p)))
 
--- the same by its kind n, which has a dest and a left, or no right
+-- the same for a kind n that has a dest and a left
 pub moved-laid : (s : List ℕ) (k n : ℕ) → k + 13 ≤ cells s → n ≡ cellAt s k → n < 4 →
     isLaid s k
     ≡ cond (ltb (operationMost n) (cellAt s (k + 1))) false
@@ -172,6 +182,7 @@ moved-laid s k n h e l =
     let five : (n ≡ 5 → ⊥) = λ f. omega arith in
     instr-laid s k h ∙ rw (← e, ne-eqb n 5 five, le-ltb 10 n (omega arith), lt-ltb n 5 (omega arith), lt-ltb n 4 l) refl
 
+-- the same for a kind n that has no right
 pub other-laid : (s : List ℕ) (k n : ℕ) → k + 13 ≤ cells s → n ≡ cellAt s k → 4 ≤ n →
     isLaid s k
     ≡ cond (eqb n 5) false (cond (ltb 10 n) false (cond (ltb (operationMost n) (cellAt s (k + 1))) false
@@ -182,19 +193,17 @@ other-laid s k n h e l =
     let two : (n ≡ 2 → ⊥) = λ f. omega arith in
     instr-laid s k h ∙ rw (← e, ne-eqb n 2 two) refl
 
--- an answer for an instruction that is no call
-module _ (s : List ℕ) (c : Cursor) where
-  record Laid (d : Cursor) : Type 0 where
-    ends : d .at ≡ c .at + 13
-    there : c .at + 13 ≤ cells s
+-- ---- what an instruction that is laid tells
 
-  laid : {d : Cursor} → eqb (cellAt s (c .at)) 5 ≡ false → instrCheck s c ≡ Checked.Behind d → Laid d
-  laid p e =
+module _ (s : List ℕ) (c : Cursor) where
+  -- a right instruction that is no call: where it ends, and that its cells are there
+  no-call : {d : Cursor} → eqb (cellAt s (c .at)) 5 ≡ false → instrCheck s c ≡ Checked.Behind d → (d .at ≡ c .at + 13) × (c .at + 13 ≤ cells s)
+  no-call p e =
       let r = instr-right s c e .body in
       let z = side-right s _ (cursor (c .at + 9)) (r .sides (eqb-false _ _ p) .right) in
-      record { ends = omega arith; there = r .there }
+      (omega arith, r .there)
 
-  -- an instruction that is laid: where it ends, and that its cells are there
+  -- the same of one that is laid
   pub laid-right : isLaid s (c .at) ≡ true → (instrCheck s c ≡ Checked.Behind (cursor (c .at + 13))) × (c .at + 13 ≤ cells s)
   unfolding isLaid
   laid-right = go (eqb (cellAt s (c .at)) 5) refl (instrCheck s c) refl
@@ -204,8 +213,8 @@ module _ (s : List ℕ) (c : Cursor) where
       go true p x e t = apart (sym t)
       go false p (Checked.Refused n j) e t = apart (sym t)
       go false p (Checked.Behind d) e t =
-          let l = laid p e in
-          (ap (λ (j : ℕ). Checked.Behind (cursor j)) (l .ends), l .there)
+          let l = no-call p e in
+          (ap (λ (j : ℕ). Checked.Behind (cursor j)) (l .0), l .1)
 
 -- where a cell is missing no instruction is laid
 pub missing : (s : List ℕ) (k : ℕ) → cells s < k + 13 → false ≡ isLaid s k

@@ -43,7 +43,7 @@ fn var_laid(s: &[u8], k: usize) -> bool
     type_laid(s, k + 1)
 }
 
-// Three cells, each at most its own bound.
+// Three cells, each at most its own bound. All are read before one is tested, so that unused ones are tested as one.
 fn fields_laid(s: &[u8], k: usize, x: u64, y: u64, z: u64) -> bool
     requires { ⌜ k + 3 ≤ cells (now s) ⌝ }
     ensures { λ r. ⌜ r ≡ accepts (fieldsCheck (now (s .entry)) (cursor k) x y z) ⌝ }
@@ -116,7 +116,7 @@ fn side_laid(s: &[u8], has: bool, k: usize) -> bool
     }
 }
 
-// The 13 cells of a kind below 4: it has a dest and a left.
+// The cells of an instruction of a kind below 4: it has a dest and a left.
 fn moved_laid(s: &[u8], k: usize, kind: u64) -> bool
     requires { ⌜ (k + 13 ≤ cells (now s)) × (kind ≡ cellAt (now s) k) × (kind < 4) ⌝ }
     ensures { λ r. ⌜ r ≡ isLaid (now (s .entry)) k ⌝ }
@@ -135,7 +135,7 @@ fn moved_laid(s: &[u8], k: usize, kind: u64) -> bool
     false
 }
 
-// The 13 cells of any other kind that is no call: it has no right.
+// The cells of an instruction of any other kind: it has no right, and may be a call.
 fn other_laid(s: &[u8], k: usize, kind: u64) -> bool
     requires { ⌜ (k + 13 ≤ cells (now s)) × (kind ≡ cellAt (now s) k) × (4 ≤ kind) ⌝ }
     ensures { λ r. ⌜ r ≡ isLaid (now (s .entry)) k ⌝ }

@@ -57,7 +57,13 @@ returns-2 c =
       ← v .var-laid .ensures,
       ← l .operand-laid .ensures,
     )
-    (simp (le-ltb _ _ (v .before .if1 .left), l .before .if2 .taken, c .before .before .if3 .taken, eq-eqb _ _ (c .before .if4 .taken), c .operand-laid2 .ensures))
+    (simp (
+      le-ltb _ _ (v .before .if1 .left),
+      l .before .if2 .taken,
+      c .before .before .if3 .taken,
+      eq-eqb _ _ (c .before .if4 .taken),
+      c .operand-laid2 .ensures,
+    ))
 
 add-unused-laid : tie.Need-add-unused-laid
 add-unused-laid c = search needs
@@ -79,7 +85,13 @@ returns-3 c =
       ← v .var-laid .ensures,
       ← l .operand-laid .ensures,
     )
-    (simp (le-ltb _ _ (v .before .if1 .left), l .before .if2 .taken, c .before .before .if3 .taken, ne-eqb _ _ (c .before .if4 .left), c .unused-laid .ensures))
+    (simp (
+      le-ltb _ _ (v .before .if1 .left),
+      l .before .if2 .taken,
+      c .before .before .if3 .taken,
+      ne-eqb _ _ (c .before .if4 .left),
+      c .unused-laid .ensures,
+    ))
 
 returns-4 : tie.Need-returns-4
 returns-4 c =

@@ -29,11 +29,7 @@ returns : tie.Need-returns
 returns c =
     let p = c .before .before in
     let b = p .before .before in
-    simp (
-      operand-laid (b .args .s .now) (b .args .k) (b .pre),
-      ← p .cell-at .ensures,
-      lt-ltb _ _ (c .if1 .taken),
-    )
+    simp (operand-laid (b .args .s .now) (b .args .k) (b .pre), ← p .cell-at .ensures, lt-ltb _ _ (c .if1 .taken))
 
 add-fields-laid-2 : tie.Need-add-fields-laid-2
 add-fields-laid-2 c = search needs
@@ -48,47 +44,32 @@ returns-2 : tie.Need-returns-2
 returns-2 c =
     let p = c .before .before in
     let b = p .before .before in
-    simp (
-      operand-laid (b .args .s .now) (b .args .k) (b .pre),
-      ← p .cell-at .ensures,
-      c .before .match .keys1,
-      c .var-laid .ensures,
-    )
+    simp (operand-laid (b .args .s .now) (b .args .k) (b .pre), ← p .cell-at .ensures, c .before .match .keys1, c .var-laid .ensures)
 
 returns-3 : tie.Need-returns-3
 returns-3 c =
     let p = c .before .before in
     let b = p .before .before in
-    simp (
-      operand-laid (b .args .s .now) (b .args .k) (b .pre),
-      ← p .cell-at .ensures,
-      c .before .match .keys2,
-      c .fields-laid .ensures,
-    )
+    simp (operand-laid (b .args .s .now) (b .args .k) (b .pre), ← p .cell-at .ensures, c .before .match .keys2, c .fields-laid .ensures)
 
 returns-4 : tie.Need-returns-4
 returns-4 c =
     let p = c .before .before in
     let b = p .before .before in
-    simp (
-      operand-laid (b .args .s .now) (b .args .k) (b .pre),
-      ← p .cell-at .ensures,
-      c .before .match .keys3,
-      c .var-laid2 .ensures,
-    )
+    simp (operand-laid (b .args .s .now) (b .args .k) (b .pre), ← p .cell-at .ensures, c .before .match .keys3, c .var-laid2 .ensures)
 
 returns-5 : tie.Need-returns-5
 returns-5 c =
     let r = c .before .before .before in
     let p = r .before in
     let b = p .before .before in
-    simp (
-      operand-laid (b .args .s .now) (b .args .k) (b .pre),
-      ← p .cell-at .ensures,
-      c .fields-laid2 .ensures,
-      c .before .first-field .ensures,
-    )
-    (simp (le-ltb _ _ (c .before .before .if1 .left), ne-eqb _ 0 (r .match .rest .0 .0 .1), ne-eqb _ 1 (r .match .rest .0 .1), ne-eqb _ 4 (r .match .rest .1)))
+    simp (operand-laid (b .args .s .now) (b .args .k) (b .pre), ← p .cell-at .ensures, c .fields-laid2 .ensures, c .before .first-field .ensures)
+    (simp (
+      le-ltb _ _ (c .before .before .if1 .left),
+      ne-eqb _ 0 (r .match .rest .0 .0 .1),
+      ne-eqb _ 1 (r .match .rest .0 .1),
+      ne-eqb _ 4 (r .match .rest .1),
+    ))
 
 pub operand-laid-spec : {M : Type 1} → statement M
 operand-laid-spec =

@@ -77,7 +77,14 @@ returns-4 c =
       ← l .before .has-left .ensures,
       ← l .side-laid .ensures,
     )
-    (simp (ne-eqb _ _ (e .before .if1 .left), le-ltb _ _ (e .if2 .left), le-ltb _ _ (d .before .before .if3 .left), l .before .before .if4 .taken, c .before .if5 .taken, c .unused-laid .ensures))
+    (simp (
+      ne-eqb _ _ (e .before .if1 .left),
+      le-ltb _ _ (e .if2 .left),
+      le-ltb _ _ (d .before .before .if3 .left),
+      l .before .before .if4 .taken,
+      c .before .if5 .taken,
+      c .unused-laid .ensures,
+    ))
 
 returns-5 : tie.Need-returns-5
 returns-5 c =
@@ -95,7 +102,13 @@ returns-5 c =
       ← l .before .has-left .ensures,
       ← l .side-laid .ensures,
     )
-    (simp (ne-eqb _ _ (e .before .if1 .left), le-ltb _ _ (e .if2 .left), le-ltb _ _ (d .before .before .if3 .left), l .before .before .if4 .taken, c .if5 .left))
+    (simp (
+      ne-eqb _ _ (e .before .if1 .left),
+      le-ltb _ _ (e .if2 .left),
+      le-ltb _ _ (d .before .before .if3 .left),
+      l .before .before .if4 .taken,
+      c .if5 .left,
+    ))
 
 returns-6 : tie.Need-returns-6
 returns-6 c =

@@ -30,14 +30,28 @@ returns-3 c =
     let q = c .before .before in
     let p = q .before .before in
     let b = p .before .before in
-    simp (type-laid (b .args .s .now) (b .args .k) (b .pre), ← p .cell-at .ensures, le-ltb _ _ (q .before .if1 .left), le-ltb _ _ (q .if2 .left), ← c .before .cell-at2 .ensures, eq-eqb _ _ (c .if3 .taken))
+    simp (
+      type-laid (b .args .s .now) (b .args .k) (b .pre),
+      ← p .cell-at .ensures,
+      le-ltb _ _ (q .before .if1 .left),
+      le-ltb _ _ (q .if2 .left),
+      ← c .before .cell-at2 .ensures,
+      eq-eqb _ _ (c .if3 .taken),
+    )
 
 returns-4 : tie.Need-returns-4
 returns-4 c =
     let q = c .before .before in
     let p = q .before .before in
     let b = p .before .before in
-    simp (type-laid (b .args .s .now) (b .args .k) (b .pre), ← p .cell-at .ensures, le-ltb _ _ (q .before .if1 .left), le-ltb _ _ (q .if2 .left), ← c .before .cell-at2 .ensures, ne-eqb _ _ (c .if3 .left))
+    simp (
+      type-laid (b .args .s .now) (b .args .k) (b .pre),
+      ← p .cell-at .ensures,
+      le-ltb _ _ (q .before .if1 .left),
+      le-ltb _ _ (q .if2 .left),
+      ← c .before .cell-at2 .ensures,
+      ne-eqb _ _ (c .if3 .left),
+    )
 
 pub type-laid-spec : {M : Type 1} → statement M
 type-laid-spec =

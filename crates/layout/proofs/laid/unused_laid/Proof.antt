@@ -17,22 +17,13 @@ returns : tie.Need-returns
 returns c =
     let p = c .before .before in
     let b = p .before .before in
-    simp (
-      unused-laid (b .args .s .now) (b .args .k) (b .pre),
-      ← p .cell-at .ensures,
-      lt-ltb _ _ (c .if1 .taken),
-    )
+    simp (unused-laid (b .args .s .now) (b .args .k) (b .pre), ← p .cell-at .ensures, lt-ltb _ _ (c .if1 .taken))
 
 returns-2 : tie.Need-returns-2
 returns-2 c =
     let p = c .before .before in
     let b = p .before .before in
-    simp (
-      unused-laid (b .args .s .now) (b .args .k) (b .pre),
-      ← p .cell-at .ensures,
-      le-ltb _ _ (c .if1 .left),
-      c .before .fields-laid .ensures,
-    )
+    simp (unused-laid (b .args .s .now) (b .args .k) (b .pre), ← p .cell-at .ensures, le-ltb _ _ (c .if1 .left), c .before .fields-laid .ensures)
 
 pub unused-laid-spec : {M : Type 1} → statement M
 unused-laid-spec =
