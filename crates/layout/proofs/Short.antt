@@ -14,7 +14,7 @@ use Rattle.layout.specs.declared.Checked.{Checked}
 use Rattle.layout.specs.Layout.{bindChecked, cursor, countCheck, zerosCheck, fieldsCheck, typeCheck, varCheck, firstField, flagField, operandCheck, operationMost, hasDest, hasLeft, destCheck, sideCheck, bodyCheck, instrCheck}
 use Rattle.layout.specs.Laid.{accepts, isLaid}
 use Rattle.layout.proofs.Passed.{apart}
-use Rattle.layout.proofs.Laws.{dest-right, side-right, instr-right}
+use Rattle.layout.proofs.Laws.{type-right, dest-right, side-right, instr-right}
 
 -- ---- what follows a cell that is there, or a part
 
@@ -223,3 +223,26 @@ missing s k h = go (isLaid s k) refl
     go : (b : Bool) → isLaid s k ≡ b → false ≡ b
     go false p = refl
     go true p = let l = laid-right s (cursor k) p .1 in absurd (omega arith)
+
+-- a type that is right: where it ends, and that its cells are there
+pub type-there : (s : List ℕ) (c : Cursor) → accepts (typeCheck s c) ≡ true → (typeCheck s c ≡ Checked.Behind (cursor (c .at + 2))) × (c .at + 2 ≤ cells s)
+type-there s c = go (typeCheck s c) refl
+  where
+    go : (x : Checked) → typeCheck s c ≡ x → accepts x ≡ true → (x ≡ Checked.Behind (cursor (c .at + 2))) × (c .at + 2 ≤ cells s)
+    go (Checked.Refused n j) e t = apart (sym t)
+    go (Checked.Behind d) e t =
+        let r = type-right s c e in
+        (ap (λ (j : ℕ). Checked.Behind (cursor j)) (omega (arith, r .0)), omega (arith, r .2 .there))
+
+-- where a cell is missing no type is right
+pub type-missing : (s : List ℕ) (k : ℕ) → cells s < k + 2 → false ≡ accepts (typeCheck s (cursor k))
+type-missing s k h = go (accepts (typeCheck s (cursor k))) refl
+  where
+    go : (b : Bool) → accepts (typeCheck s (cursor k)) ≡ b → false ≡ b
+    go false p = refl
+    go true p = let l = type-there s (cursor k) p .1 in absurd (omega arith)
+
+-- a check that accepts nothing refuses
+pub refuses : (x : Checked) (f : Cursor → Checked) → accepts x ≡ false → bindChecked x f ≡ x
+refuses (Checked.Behind d) f e = apart e
+refuses (Checked.Refused n j) f e = refl

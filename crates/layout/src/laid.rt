@@ -32,6 +32,19 @@ fn type_laid(s: &[u8], k: usize) -> bool
     count <= MOST_BYTES
 }
 
+// A type, with both its cells there.
+pub fn is_type(s: &[u8], k: usize) -> bool
+    ensures { λ r. ⌜ r ≡ accepts (typeCheck (now (s .entry)) (cursor k)) ⌝ }
+{
+    let all = s.len() / 8;
+    if 2 <= all {
+        if k <= all - 2 {
+            return type_laid(s, k);
+        }
+    }
+    false
+}
+
 // An id that is not negative, and a type.
 fn var_laid(s: &[u8], k: usize) -> bool
     requires { ⌜ k + 3 ≤ cells (now s) ⌝ }

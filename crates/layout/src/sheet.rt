@@ -2,6 +2,7 @@
 use crate::Checked;
 use crate::Limited;
 use crate::instrs::instrs_check;
+use crate::laid::is_type;
 use crate::parts::MOST_BYTES;
 use crate::parts::end_check;
 use crate::parts::limited;
@@ -21,17 +22,14 @@ fn types_check(s: &[u8], n: u64, c: Cursor) -> Checked
     let mut total: u64 = 0;
     let mut here = c;
     while 0 < left {
-        match type_check(s, here) {
-            Checked::Behind(next) => {
-                total += type_at(s, here.at).bytes();
-                if MOST_BYTES < total {
-                    return Checked::Refused(3, here.at + 1);
-                }
-                here = next;
+        if is_type(s, here.at) {
+            total += type_at(s, here.at).bytes();
+            if MOST_BYTES < total {
+                return Checked::Refused(3, here.at + 1);
             }
-            Checked::Refused(number, k) => {
-                return Checked::Refused(number, k);
-            }
+            here = Cursor { at: here.at + 2 };
+        } else {
+            return type_check(s, here);
         }
         left -= 1;
     }
