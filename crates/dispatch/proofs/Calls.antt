@@ -49,6 +49,12 @@ call-count s k {d} {symbol} {count} e = go (cellAt s k) e
     go (suc (suc (suc (suc (suc (suc (suc (suc (suc zero))))))))) h = absurd (let z : _≡_ {A = ℕ} 0 1 = cc in omega arith)
     go (suc (suc (suc (suc (suc (suc (suc (suc (suc (suc n)))))))))) h = absurd (let z : _≡_ {A = ℕ} 0 1 = cc in omega arith)
 
+-- ---- comments
+
+pub comment : (s : List ℕ) (k : ℕ) → cellAt s k ≡ 10 → instrAt s k ≡ Instr.Comment
+unfolding instrAt
+comment s k e = rw (e)
+
 -- ---- any other instruction
 
 -- the arguments play no part

@@ -3,6 +3,7 @@ use arithmetic::generate_binary;
 use arithmetic::generate_unary;
 use calls::generate_call;
 use casts::generate_cast;
+use cells::cell_at;
 use instructions::generate_copy;
 use instructions::generate_jmp_if_not;
 use instructions::generate_jump;
@@ -85,7 +86,7 @@ fn generate_instr(tables: &[u8], offsets: &[u64], labels: u64, ret: Type, i: Ins
     }
 }
 
-// Any instruction, by its list maker.
+// Any instruction, by its list maker; a comment has none.
 fn put_made(
     tables: &[u8],
     offsets: &[u64],
@@ -102,6 +103,9 @@ fn put_made(
     ensures { λ r. ⌜ madeSays r ≡ counted (generateInstr (lent (now (tables .entry)) (now (offsets .entry))) labels ret (instrAt (now (sheet .entry)) k) (operandsAt (now (sheet .entry)) (argumentsAt (now (sheet .entry)) k) (k + 13))) ⌝ }
     ensures { λ r. ⌜ PutAll at (generateInstr (lent (now (tables .entry)) (now (offsets .entry))) labels ret (instrAt (now (sheet .entry)) k) (operandsAt (now (sheet .entry)) (argumentsAt (now (sheet .entry)) k) (k + 13))) (now (out .entry)) (now (out .exit)) ⌝ }
 {
+    if cell_at(sheet, k) == 10 {
+        return Made::Records(0);
+    }
     let i = instr_at(sheet, k);
     if let Instr::Call {
         dest,
@@ -131,7 +135,7 @@ fn put_quickly(
     ensures { λ r. ⌜ madeSays r ≡ counted (generateInstr (lent (now (tables .entry)) (now (offsets .entry))) labels ret (instrAt (now (sheet .entry)) k) (operandsAt (now (sheet .entry)) (argumentsAt (now (sheet .entry)) k) (k + 13))) ⌝ }
     ensures { λ r. ⌜ PutAll at (generateInstr (lent (now (tables .entry)) (now (offsets .entry))) labels ret (instrAt (now (sheet .entry)) k) (operandsAt (now (sheet .entry)) (argumentsAt (now (sheet .entry)) k) (k + 13))) (now (out .entry)) (now (out .exit)) ⌝ }
 {
-    let n = put_quick(offsets, sheet, k, labels, out, at);
+    let n = put_quick(offsets, sheet, k, labels, ret.is_float(), out, at);
     if n != 0 {
         return Made::Records(n);
     }

@@ -8,6 +8,7 @@ use lib.Dec.{eqb}
 use lib.ListN.{getD, length}
 use Rattle.cells.specs.Cells.{cellAt, minus}
 use Rattle.ir.specs.declared.Operand.{Operand as IrOp}
+use Rattle.ir.specs.Types.{operandSize}
 use Rattle.ir.specs.Function.{varOperand, intOperand, floatOperand, boolOperand, addressOperand, dataOperand, operandAt}
 use Rattle.ir.specs.declared.UnaryOp.{UnaryOp as IrUnary}
 use Rattle.ir.specs.Function.{unaryOp}
@@ -17,11 +18,12 @@ use Rattle.x86.specs.declared.enums.ConditionCode.{ConditionCode}
 use Rattle.x86.specs.declared.enums.ExtendOp.{ExtendOp}
 use Rattle.x86.specs.declared.enums.Instruction.{Instruction}
 use Rattle.x86.specs.declared.mem_address.Base.{Base}
-use Rattle.x86.specs.Registers.{gpr}
-use Rattle.x86.specs.Records.{sizeCode, baseTag, tagOf, valueOf, recordOf, conditionCode}
+use Rattle.x86.specs.declared.enums.UnaryOp.{UnaryOp}
+use Rattle.x86.specs.Registers.{gpr, RAX}
+use Rattle.x86.specs.Records.{sizeCode, baseTag, tagOf, valueOf, recordOf, cellsRecord, conditionCode}
 use Rattle.codegen.specs.Utils.{isOneByte, loadFrom}
-use Rattle.codegen.specs.Arithmetic.{unsignedCode, unsignedCodes}
-use Rattle.integers.specs.Integers.{operandOf, slotOf, valueSize, valueUnsigned, loadCells}
+use Rattle.codegen.specs.Arithmetic.{unsignedCode, unsignedCodes, signInto}
+use Rattle.integers.specs.Integers.{operandOf, slotOf, valueSize, valueUnsigned, loadCells, extended, extendedCells}
 
 -- behind the last offset
 pub no-offset : (offsets : List ℕ) (k : ℕ) → length offsets ≤ k → 0 ≡ minus (getD offsets k 0)
@@ -68,6 +70,20 @@ eight-bytes s k = go (cellAt s k)
     go (suc (suc (suc (suc (suc zero))))) h0 h1 h3 = refl
     go (suc (suc (suc (suc (suc (suc n)))))) h0 h1 h3 = refl
 
+-- Null has no size of its own
+pub no-size : (s : List ℕ) (k : ℕ) → (cellAt s k ≡ 0 → ⊥) → (cellAt s k ≡ 1 → ⊥) → (cellAt s k ≡ 2 → ⊥) → (cellAt s k ≡ 3 → ⊥) → (cellAt s k ≡ 4 → ⊥) → (cellAt s k ≡ 5 → ⊥) → Size.NoSize ≡ operandSize (operandAt s k)
+unfolding operandAt operandSize
+no-size s k = go (cellAt s k)
+  where
+    go : (c : ℕ) → (c ≡ 0 → ⊥) → (c ≡ 1 → ⊥) → (c ≡ 2 → ⊥) → (c ≡ 3 → ⊥) → (c ≡ 4 → ⊥) → (c ≡ 5 → ⊥) → Size.NoSize ≡ operandSize (getD (varOperand ∷ intOperand ∷ floatOperand ∷ boolOperand ∷ addressOperand ∷ dataOperand ∷ []) c (λ s k. IrOp.Null) s k)
+    go zero h0 h1 h2 h3 h4 h5 = absurd (h0 refl)
+    go (suc zero) h0 h1 h2 h3 h4 h5 = absurd (h1 refl)
+    go (suc (suc zero)) h0 h1 h2 h3 h4 h5 = absurd (h2 refl)
+    go (suc (suc (suc zero))) h0 h1 h2 h3 h4 h5 = absurd (h3 refl)
+    go (suc (suc (suc (suc zero)))) h0 h1 h2 h3 h4 h5 = absurd (h4 refl)
+    go (suc (suc (suc (suc (suc zero))))) h0 h1 h2 h3 h4 h5 = absurd (h5 refl)
+    go (suc (suc (suc (suc (suc (suc n)))))) h0 h1 h2 h3 h4 h5 = refl
+
 pub unsigned-constant : (s : List ℕ) (k : ℕ) → (cellAt s k ≡ 0 → ⊥) → (cellAt s k ≡ 1 → ⊥) → true ≡ valueUnsigned (operandAt s k)
 unfolding operandAt valueUnsigned
 unsigned-constant s k = go (cellAt s k)
@@ -95,6 +111,31 @@ more-bytes Size.U8 h = absurd (h refl)
 more-bytes Size.U16 h = refl
 more-bytes Size.U32 h = refl
 more-bytes Size.U64 h = refl
+
+-- .. and the size of four bytes the one of code 4
+pub four-bytes : (size : Size) → sizeCode size ≡ 4 → signInto size ≡ UnaryOp.Cdq
+four-bytes Size.NoSize e = absurd (omega (arith, e))
+four-bytes Size.U8 e = absurd (omega (arith, e))
+four-bytes Size.U16 e = absurd (omega (arith, e))
+four-bytes Size.U32 e = refl
+four-bytes Size.U64 e = absurd (omega (arith, e))
+
+pub not-four : (size : Size) → (sizeCode size ≡ 4 → ⊥) → signInto size ≡ UnaryOp.Cqo
+not-four Size.NoSize h = refl
+not-four Size.U8 h = refl
+not-four Size.U16 h = refl
+not-four Size.U32 h = absurd (h refl)
+not-four Size.U64 h = refl
+
+-- a widened operand by its cells
+pub extended-record : (width : ℕ) (x : Operand) → extendedCells width (tagOf x) (valueOf x) ≡ recordOf (extended width x)
+unfolding extendedCells recordOf
+extended-record width x = go (eqb width 1)
+  where
+    go : (b : Bool) → cond b (cellsRecord 7 2 1 0 (tagOf x) (valueOf x) 8 1) (cellsRecord 7 1 1 0 (tagOf x) (valueOf x) 8 4)
+        ≡ recordOf (cond b (Instruction.Extend ExtendOp.Movzx RAX x Size.U8 Size.U64) (Instruction.Extend ExtendOp.Movsxd RAX x Size.U32 Size.U64))
+    go true = refl
+    go false = refl
 
 -- an address's tag is no constant's
 no-constant : (b : Base) → eqb (baseTag b) 2 ≡ false

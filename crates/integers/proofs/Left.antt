@@ -5,41 +5,42 @@ use mathlib.Core.List.{List, [], _∷_, append-nil}
 use Rattle.ir.specs.declared.VarId.{VarId}
 use Rattle.ir.specs.declared.Operand.{Operand as IrOp}
 use lib.ListN.{getD, length}
-use lib.Dec.{leb}
-use mathlib.Core.Bool.{Bool, true, false, cond}
-use Rattle.ir.specs.Types.{elementWidth}
+use mathlib.Core.Bool.{Bool}
 use Rattle.cells.specs.Cells.{cellAt, write}
 use Rattle.ir.specs.declared.Instr.{Instr}
 use Rattle.ir.specs.Function.{copyAt, unaryAt, binaryAt, castAt, zeroAt, callAt, labelAt, jumpAt, jumpIfNotAt, returnAt, instrAt}
 use Rattle.x86.specs.declared.enums.Operand.{Operand}
 use Rattle.x86.specs.declared.enums.CtrlOp.{CtrlOp}
 use Rattle.x86.specs.declared.enums.Instruction.{Instruction}
+use Rattle.x86.specs.Registers.{RDX}
 use Rattle.x86.specs.Records.{listBytes, recordBytes, cellsRecord, recordOf, shiftCode}
 use Rattle.x86.specs.declared.enums.ShiftOp.{ShiftOp}
 use borrow.Author.Tests.{ne-eqb}
 use Rattle.records.specs.Records.{bytesOfRecords}
 use Rattle.records.proofs.Written.{nothing}
-use Rattle.integers.specs.Integers.{binaryList, openList, quickCount, quickList, castList, copyList, valueWidth, pairRecords, shiftList, productList}
+use Rattle.integers.specs.Integers.{binaryList, openList, quickCount, quickList, pairRecords, shiftList, productList, divisionList}
 
-pub no-list : (offsets : List ℕ) (d : VarId) (l r : IrOp) (op : ℕ) → (op ≡ 2 → ⊥) → (op ≡ 3 → ⊥) → (op ≡ 4 → ⊥) → (op ≡ 5 → ⊥) → (op ≡ 6 → ⊥) → (op ≡ 7 → ⊥) → (op ≡ 8 → ⊥) → (op ≡ 9 → ⊥) → (op ≡ 10 → ⊥) → (op ≡ 11 → ⊥) → (op ≡ 12 → ⊥) → (op ≡ 13 → ⊥) → (op ≡ 14 → ⊥) → (op ≡ 15 → ⊥) → binaryList offsets d op l r ≡ []
+-- the last of the binary operations
+pub last-list : (offsets : List ℕ) (d : VarId) (l r : IrOp) (op : ℕ) → (op ≡ 0 → ⊥) → (op ≡ 1 → ⊥) → (op ≡ 2 → ⊥) → (op ≡ 3 → ⊥) → (op ≡ 4 → ⊥) → (op ≡ 5 → ⊥) → (op ≡ 6 → ⊥) → (op ≡ 7 → ⊥) → (op ≡ 8 → ⊥) → (op ≡ 9 → ⊥) → (op ≡ 10 → ⊥) → (op ≡ 11 → ⊥) → (op ≡ 12 → ⊥) → (op ≡ 13 → ⊥) → (op ≡ 14 → ⊥) → (op ≡ 15 → ⊥) → (op ≡ 16 → ⊥) → binaryList offsets d op l r ≡ divisionList offsets d l r RDX
 unfolding binaryList
-no-list offsets d l r zero h2 h3 h4 h5 h6 h7 h8 h9 h10 h11 h12 h13 h14 h15 = refl
-no-list offsets d l r (suc zero) h2 h3 h4 h5 h6 h7 h8 h9 h10 h11 h12 h13 h14 h15 = refl
-no-list offsets d l r (suc (suc zero)) h2 h3 h4 h5 h6 h7 h8 h9 h10 h11 h12 h13 h14 h15 = absurd (h2 refl)
-no-list offsets d l r (suc (suc (suc zero))) h2 h3 h4 h5 h6 h7 h8 h9 h10 h11 h12 h13 h14 h15 = absurd (h3 refl)
-no-list offsets d l r (suc (suc (suc (suc zero)))) h2 h3 h4 h5 h6 h7 h8 h9 h10 h11 h12 h13 h14 h15 = absurd (h4 refl)
-no-list offsets d l r (suc (suc (suc (suc (suc zero))))) h2 h3 h4 h5 h6 h7 h8 h9 h10 h11 h12 h13 h14 h15 = absurd (h5 refl)
-no-list offsets d l r (suc (suc (suc (suc (suc (suc zero)))))) h2 h3 h4 h5 h6 h7 h8 h9 h10 h11 h12 h13 h14 h15 = absurd (h6 refl)
-no-list offsets d l r (suc (suc (suc (suc (suc (suc (suc zero))))))) h2 h3 h4 h5 h6 h7 h8 h9 h10 h11 h12 h13 h14 h15 = absurd (h7 refl)
-no-list offsets d l r (suc (suc (suc (suc (suc (suc (suc (suc zero)))))))) h2 h3 h4 h5 h6 h7 h8 h9 h10 h11 h12 h13 h14 h15 = absurd (h8 refl)
-no-list offsets d l r (suc (suc (suc (suc (suc (suc (suc (suc (suc zero))))))))) h2 h3 h4 h5 h6 h7 h8 h9 h10 h11 h12 h13 h14 h15 = absurd (h9 refl)
-no-list offsets d l r (suc (suc (suc (suc (suc (suc (suc (suc (suc (suc zero)))))))))) h2 h3 h4 h5 h6 h7 h8 h9 h10 h11 h12 h13 h14 h15 = absurd (h10 refl)
-no-list offsets d l r (suc (suc (suc (suc (suc (suc (suc (suc (suc (suc (suc zero))))))))))) h2 h3 h4 h5 h6 h7 h8 h9 h10 h11 h12 h13 h14 h15 = absurd (h11 refl)
-no-list offsets d l r (suc (suc (suc (suc (suc (suc (suc (suc (suc (suc (suc (suc zero)))))))))))) h2 h3 h4 h5 h6 h7 h8 h9 h10 h11 h12 h13 h14 h15 = absurd (h12 refl)
-no-list offsets d l r (suc (suc (suc (suc (suc (suc (suc (suc (suc (suc (suc (suc (suc zero))))))))))))) h2 h3 h4 h5 h6 h7 h8 h9 h10 h11 h12 h13 h14 h15 = absurd (h13 refl)
-no-list offsets d l r (suc (suc (suc (suc (suc (suc (suc (suc (suc (suc (suc (suc (suc (suc zero)))))))))))))) h2 h3 h4 h5 h6 h7 h8 h9 h10 h11 h12 h13 h14 h15 = absurd (h14 refl)
-no-list offsets d l r (suc (suc (suc (suc (suc (suc (suc (suc (suc (suc (suc (suc (suc (suc (suc zero))))))))))))))) h2 h3 h4 h5 h6 h7 h8 h9 h10 h11 h12 h13 h14 h15 = absurd (h15 refl)
-no-list offsets d l r (suc (suc (suc (suc (suc (suc (suc (suc (suc (suc (suc (suc (suc (suc (suc (suc n)))))))))))))))) h2 h3 h4 h5 h6 h7 h8 h9 h10 h11 h12 h13 h14 h15 = refl
+last-list offsets d l r zero h0 h1 h2 h3 h4 h5 h6 h7 h8 h9 h10 h11 h12 h13 h14 h15 h16 = absurd (h0 refl)
+last-list offsets d l r (suc zero) h0 h1 h2 h3 h4 h5 h6 h7 h8 h9 h10 h11 h12 h13 h14 h15 h16 = absurd (h1 refl)
+last-list offsets d l r (suc (suc zero)) h0 h1 h2 h3 h4 h5 h6 h7 h8 h9 h10 h11 h12 h13 h14 h15 h16 = absurd (h2 refl)
+last-list offsets d l r (suc (suc (suc zero))) h0 h1 h2 h3 h4 h5 h6 h7 h8 h9 h10 h11 h12 h13 h14 h15 h16 = absurd (h3 refl)
+last-list offsets d l r (suc (suc (suc (suc zero)))) h0 h1 h2 h3 h4 h5 h6 h7 h8 h9 h10 h11 h12 h13 h14 h15 h16 = absurd (h4 refl)
+last-list offsets d l r (suc (suc (suc (suc (suc zero))))) h0 h1 h2 h3 h4 h5 h6 h7 h8 h9 h10 h11 h12 h13 h14 h15 h16 = absurd (h5 refl)
+last-list offsets d l r (suc (suc (suc (suc (suc (suc zero)))))) h0 h1 h2 h3 h4 h5 h6 h7 h8 h9 h10 h11 h12 h13 h14 h15 h16 = absurd (h6 refl)
+last-list offsets d l r (suc (suc (suc (suc (suc (suc (suc zero))))))) h0 h1 h2 h3 h4 h5 h6 h7 h8 h9 h10 h11 h12 h13 h14 h15 h16 = absurd (h7 refl)
+last-list offsets d l r (suc (suc (suc (suc (suc (suc (suc (suc zero)))))))) h0 h1 h2 h3 h4 h5 h6 h7 h8 h9 h10 h11 h12 h13 h14 h15 h16 = absurd (h8 refl)
+last-list offsets d l r (suc (suc (suc (suc (suc (suc (suc (suc (suc zero))))))))) h0 h1 h2 h3 h4 h5 h6 h7 h8 h9 h10 h11 h12 h13 h14 h15 h16 = absurd (h9 refl)
+last-list offsets d l r (suc (suc (suc (suc (suc (suc (suc (suc (suc (suc zero)))))))))) h0 h1 h2 h3 h4 h5 h6 h7 h8 h9 h10 h11 h12 h13 h14 h15 h16 = absurd (h10 refl)
+last-list offsets d l r (suc (suc (suc (suc (suc (suc (suc (suc (suc (suc (suc zero))))))))))) h0 h1 h2 h3 h4 h5 h6 h7 h8 h9 h10 h11 h12 h13 h14 h15 h16 = absurd (h11 refl)
+last-list offsets d l r (suc (suc (suc (suc (suc (suc (suc (suc (suc (suc (suc (suc zero)))))))))))) h0 h1 h2 h3 h4 h5 h6 h7 h8 h9 h10 h11 h12 h13 h14 h15 h16 = absurd (h12 refl)
+last-list offsets d l r (suc (suc (suc (suc (suc (suc (suc (suc (suc (suc (suc (suc (suc zero))))))))))))) h0 h1 h2 h3 h4 h5 h6 h7 h8 h9 h10 h11 h12 h13 h14 h15 h16 = absurd (h13 refl)
+last-list offsets d l r (suc (suc (suc (suc (suc (suc (suc (suc (suc (suc (suc (suc (suc (suc zero)))))))))))))) h0 h1 h2 h3 h4 h5 h6 h7 h8 h9 h10 h11 h12 h13 h14 h15 h16 = absurd (h14 refl)
+last-list offsets d l r (suc (suc (suc (suc (suc (suc (suc (suc (suc (suc (suc (suc (suc (suc (suc zero))))))))))))))) h0 h1 h2 h3 h4 h5 h6 h7 h8 h9 h10 h11 h12 h13 h14 h15 h16 = absurd (h15 refl)
+last-list offsets d l r (suc (suc (suc (suc (suc (suc (suc (suc (suc (suc (suc (suc (suc (suc (suc (suc zero)))))))))))))))) h0 h1 h2 h3 h4 h5 h6 h7 h8 h9 h10 h11 h12 h13 h14 h15 h16 = absurd (h16 refl)
+last-list offsets d l r (suc (suc (suc (suc (suc (suc (suc (suc (suc (suc (suc (suc (suc (suc (suc (suc (suc n))))))))))))))))) h0 h1 h2 h3 h4 h5 h6 h7 h8 h9 h10 h11 h12 h13 h14 h15 h16 = refl
 
 -- no record leaves every byte
 pub none-written : (s : List ℕ) (at : ℕ) → s ≡ write s at (listBytes [])
@@ -47,29 +48,29 @@ unfolding listBytes bytesOfRecords
 none-written s at = nothing s at
 
 -- the instructions that are left to their list makers
-pub no-open : (offsets : List ℕ) (s : List ℕ) (k : ℕ) → (cellAt s k ≡ 0 → ⊥) → (cellAt s k ≡ 1 → ⊥) → (cellAt s k ≡ 2 → ⊥) → (cellAt s k ≡ 3 → ⊥) → (cellAt s k ≡ 6 → ⊥) → (cellAt s k ≡ 7 → ⊥) → (cellAt s k ≡ 8 → ⊥) → openList offsets (instrAt s k) ≡ []
+pub no-open : (offsets : List ℕ) (float : Bool) (s : List ℕ) (k : ℕ) → (cellAt s k ≡ 0 → ⊥) → (cellAt s k ≡ 1 → ⊥) → (cellAt s k ≡ 2 → ⊥) → (cellAt s k ≡ 3 → ⊥) → (cellAt s k ≡ 4 → ⊥) → (cellAt s k ≡ 6 → ⊥) → (cellAt s k ≡ 7 → ⊥) → (cellAt s k ≡ 8 → ⊥) → (cellAt s k ≡ 9 → ⊥) → openList offsets float (instrAt s k) ≡ []
 unfolding instrAt openList
-no-open offsets s k = go (cellAt s k)
+no-open offsets float s k = go (cellAt s k)
   where
-    go : (c : ℕ) → (c ≡ 0 → ⊥) → (c ≡ 1 → ⊥) → (c ≡ 2 → ⊥) → (c ≡ 3 → ⊥) → (c ≡ 6 → ⊥) → (c ≡ 7 → ⊥) → (c ≡ 8 → ⊥) → openList offsets (getD (copyAt ∷ unaryAt ∷ binaryAt ∷ castAt ∷ zeroAt ∷ callAt ∷ labelAt ∷ jumpAt ∷ jumpIfNotAt ∷ returnAt ∷ []) c (λ s k. Instr.Comment) s k) ≡ []
-    go zero h0 h1 h2 h3 h6 h7 h8 = absurd (h0 refl)
-    go (suc zero) h0 h1 h2 h3 h6 h7 h8 = absurd (h1 refl)
-    go (suc (suc zero)) h0 h1 h2 h3 h6 h7 h8 = absurd (h2 refl)
-    go (suc (suc (suc zero))) h0 h1 h2 h3 h6 h7 h8 = absurd (h3 refl)
-    go (suc (suc (suc (suc zero)))) h0 h1 h2 h3 h6 h7 h8 = refl
-    go (suc (suc (suc (suc (suc zero))))) h0 h1 h2 h3 h6 h7 h8 = refl
-    go (suc (suc (suc (suc (suc (suc zero)))))) h0 h1 h2 h3 h6 h7 h8 = absurd (h6 refl)
-    go (suc (suc (suc (suc (suc (suc (suc zero))))))) h0 h1 h2 h3 h6 h7 h8 = absurd (h7 refl)
-    go (suc (suc (suc (suc (suc (suc (suc (suc zero)))))))) h0 h1 h2 h3 h6 h7 h8 = absurd (h8 refl)
-    go (suc (suc (suc (suc (suc (suc (suc (suc (suc zero))))))))) h0 h1 h2 h3 h6 h7 h8 = refl
-    go (suc (suc (suc (suc (suc (suc (suc (suc (suc (suc n)))))))))) h0 h1 h2 h3 h6 h7 h8 = refl
+    go : (c : ℕ) → (c ≡ 0 → ⊥) → (c ≡ 1 → ⊥) → (c ≡ 2 → ⊥) → (c ≡ 3 → ⊥) → (c ≡ 4 → ⊥) → (c ≡ 6 → ⊥) → (c ≡ 7 → ⊥) → (c ≡ 8 → ⊥) → (c ≡ 9 → ⊥) → openList offsets float (getD (copyAt ∷ unaryAt ∷ binaryAt ∷ castAt ∷ zeroAt ∷ callAt ∷ labelAt ∷ jumpAt ∷ jumpIfNotAt ∷ returnAt ∷ []) c (λ s k. Instr.Comment) s k) ≡ []
+    go zero h0 h1 h2 h3 h4 h6 h7 h8 h9 = absurd (h0 refl)
+    go (suc zero) h0 h1 h2 h3 h4 h6 h7 h8 h9 = absurd (h1 refl)
+    go (suc (suc zero)) h0 h1 h2 h3 h4 h6 h7 h8 h9 = absurd (h2 refl)
+    go (suc (suc (suc zero))) h0 h1 h2 h3 h4 h6 h7 h8 h9 = absurd (h3 refl)
+    go (suc (suc (suc (suc zero)))) h0 h1 h2 h3 h4 h6 h7 h8 h9 = absurd (h4 refl)
+    go (suc (suc (suc (suc (suc zero))))) h0 h1 h2 h3 h4 h6 h7 h8 h9 = refl
+    go (suc (suc (suc (suc (suc (suc zero)))))) h0 h1 h2 h3 h4 h6 h7 h8 h9 = absurd (h6 refl)
+    go (suc (suc (suc (suc (suc (suc (suc zero))))))) h0 h1 h2 h3 h4 h6 h7 h8 h9 = absurd (h7 refl)
+    go (suc (suc (suc (suc (suc (suc (suc (suc zero)))))))) h0 h1 h2 h3 h4 h6 h7 h8 h9 = absurd (h8 refl)
+    go (suc (suc (suc (suc (suc (suc (suc (suc (suc zero))))))))) h0 h1 h2 h3 h4 h6 h7 h8 h9 = absurd (h9 refl)
+    go (suc (suc (suc (suc (suc (suc (suc (suc (suc (suc n)))))))))) h0 h1 h2 h3 h4 h6 h7 h8 h9 = refl
 
 -- ---- the list of an instruction, by its kind
 
-pub as-open : (offsets : List ℕ) (labels : ℕ) (s : List ℕ) (k : ℕ) (i : Instr) → (quickCount (length offsets) labels (instrAt s k) ≡ 0 → ⊥) → instrAt s k ≡ i
-    → quickList offsets labels (instrAt s k) ≡ openList offsets i
+pub as-open : (offsets : List ℕ) (labels : ℕ) (float : Bool) (s : List ℕ) (k : ℕ) (i : Instr) → (quickCount (length offsets) labels (instrAt s k) ≡ 0 → ⊥) → instrAt s k ≡ i
+    → quickList offsets labels float (instrAt s k) ≡ openList offsets float i
 unfolding quickList
-as-open offsets labels s k i h e = rw (ne-eqb (quickCount (length offsets) labels (instrAt s k)) 0 h) (ap (openList offsets) e)
+as-open offsets labels float s k i h e = rw (ne-eqb (quickCount (length offsets) labels (instrAt s k)) 0 h) (ap (openList offsets float) e)
 
 pub is-0 : (s : List ℕ) (k : ℕ) → cellAt s k ≡ 0 → instrAt s k ≡ copyAt s k
 unfolding instrAt
@@ -87,6 +88,10 @@ pub is-3 : (s : List ℕ) (k : ℕ) → cellAt s k ≡ 3 → instrAt s k ≡ cas
 unfolding instrAt
 is-3 s k e = rw (e)
 
+pub is-4 : (s : List ℕ) (k : ℕ) → cellAt s k ≡ 4 → instrAt s k ≡ zeroAt s k
+unfolding instrAt
+is-4 s k e = rw (e)
+
 pub is-6 : (s : List ℕ) (k : ℕ) → cellAt s k ≡ 6 → instrAt s k ≡ labelAt s k
 unfolding instrAt
 is-6 s k e = rw (e)
@@ -99,6 +104,10 @@ pub is-8 : (s : List ℕ) (k : ℕ) → cellAt s k ≡ 8 → instrAt s k ≡ jum
 unfolding instrAt
 is-8 s k e = rw (e)
 
+pub is-9 : (s : List ℕ) (k : ℕ) → cellAt s k ≡ 9 → instrAt s k ≡ returnAt s k
+unfolding instrAt
+is-9 s k e = rw (e)
+
 -- the bytes of a pair's records
 pub shift-bytes : (offsets : List ℕ) (d : VarId) (l r : IrOp) (op : ShiftOp) → bytesOfRecords (pairRecords offsets d l r 13 (shiftCode op)) ≡ listBytes (shiftList offsets d l r op)
 unfolding bytesOfRecords listBytes pairRecords shiftList recordOf
@@ -107,15 +116,6 @@ shift-bytes offsets d l r op = refl
 pub product-bytes : (offsets : List ℕ) (d : VarId) (l r : IrOp) → bytesOfRecords (pairRecords offsets d l r 4 4) ≡ listBytes (productList offsets d l r)
 unfolding bytesOfRecords listBytes pairRecords productList recordOf
 product-bytes offsets d l r = refl
-
--- a cast has two records
-pub cast-length : (offsets : List ℕ) (d : VarId) (x : IrOp) → 2 ≡ length (castList offsets d x)
-unfolding castList copyList
-cast-length offsets d x = go (leb (elementWidth (d .ty .code)) (valueWidth x)) _ _ refl refl
-  where
-    go : (b : Bool) (is js : List Instruction) → length is ≡ 2 → length js ≡ 2 → 2 ≡ length (cond b is js)
-    go true is js e f = sym e
-    go false is js e f = sym f
 
 -- the bytes of one record
 pub label-bytes : (l : ℕ) → recordBytes (cellsRecord 9 0 4 l 0 0 0 0) ≡ listBytes (Instruction.Label l ∷ [])

@@ -1,4 +1,4 @@
--- The quick count is the number of the list maker's records.
+-- The quick list is the list maker's, and the quick count its length.
 use Prim.Native.Nat.{ℕ, zero, suc}
 use mathlib.Core.Path.{_≡_, refl, sym, ap, _∙_}
 use mathlib.Core.Bool.{Bool, true, false, cond, _&&_, _||_}
@@ -25,12 +25,12 @@ use Rattle.x86.specs.declared.enums.Instruction.{Instruction}
 use Rattle.x86.specs.Registers.{RAX, RCX, RDX, xmm}
 use Rattle.codegen.specs.Context.{Context, displacement, labelAt}
 use Rattle.codegen.specs.Utils.{sizeFrom, varSize, convertVar, convertOperand, sizeOr, loadFrom, loadValue, loadOperand}
-use Rattle.codegen.specs.Instructions.{move, kind, Kind, source, castOperand, widened, castBetween, generateCast, operandKind, generateCopy, generateReturn, generateLabel, generateJump, generateJmpIfNot}
+use Rattle.codegen.specs.Instructions.{move, kind, Kind, source, castOperand, widened, castBetween, generateCast, operandKind, generateCopy, generateReturn, generateZero, generateLabel, generateJump, generateJmpIfNot}
 use Rattle.codegen.specs.Arithmetic.{simpleOperation, twoLoads, dividing, division, multiplication, shift, compared, comparison, generateBinary, integerBinary, generateUnary}
 use Rattle.codegen.specs.Generation.{generateInstr}
 use Rattle.utils.specs.Answers.{counted}
 use Rattle.layout.proofs.Passed.{apart}
-use Rattle.integers.specs.Integers.{isInteger, isIntegerVar, isIntegerOperand, binaryCount, quickCount, slotOf, operandOf, valueSize, valueUnsigned, copyList, simpleList, comparedList, shiftList, productList, unaryRecord, unaryList, branchList, binaryList, openList, quickList, valueWidth, isQuickCast, castList}
+use Rattle.integers.specs.Integers.{isInteger, isIntegerVar, isIntegerOperand, binaryCount, quickCount, slotOf, operandOf, valueSize, valueUnsigned, copyList, simpleList, comparedList, shiftList, productList, unaryRecord, unaryList, branchList, binaryList, openList, quickList, valueWidth, isVar, castCount, castList, extended, widenedList, constantList, clearOrSign, divideBy, divisionList, zeroList, returnList}
 
 -- both of two tests
 first : (a b : Bool) → (a && b) ≡ true → a ≡ true
@@ -184,76 +184,13 @@ kind-integral n (IrOp.Address v) = refl
 kind-integral n (IrOp.DataAddress k) = refl
 kind-integral n IrOp.Null = refl
 
--- ---- the lists' lengths
+-- ---- the lists
 
 abbrev Var : Context → VarId → Type 0
 Var ctx v = isIntegerVar (length (ctx .offsets)) v ≡ true
 
 abbrev Op : Context → IrOp → Type 0
 Op ctx x = isIntegerOperand (length (ctx .offsets)) x ≡ true
-
-copy-counted : (ctx : Context) (d : VarId) (x : IrOp) → Var ctx d → Op ctx x → counted (generateCopy ctx d x) ≡ ok 2
-unfolding generateCopy
-copy-counted ctx d x hd hx = rw (slotted ctx d hd, sized _ d hd, loaded ctx RAX x (elfSize (d .ty)) hx)
-
-unary-counted : (ctx : Context) (d : VarId) (op : IrUnary) (x : IrOp) → Var ctx d → Op ctx x → counted (generateUnary ctx d op x) ≡ ok 3
-unfolding generateUnary
-unary-counted ctx d IrUnary.Neg x hd hx = rw (sized _ d hd, loaded ctx RAX x (elfSize (d .ty)) hx, slotted ctx d hd, integral _ d hd)
-unary-counted ctx d IrUnary.BitNot x hd hx = rw (sized _ d hd, loaded ctx RAX x (elfSize (d .ty)) hx, slotted ctx d hd)
-unary-counted ctx d IrUnary.Not x hd hx = rw (sized _ d hd, loaded ctx RAX x (elfSize (d .ty)) hx, slotted ctx d hd)
-
-simple-counted : (ctx : Context) (d : VarId) (l r : IrOp) (op : BinOp) → Var ctx d → Op ctx l → Op ctx r → counted (simpleOperation ctx d l r op) ≡ ok 3
-unfolding simpleOperation
-simple-counted ctx d l r op hd hl hr = rw (sized _ d hd, loaded ctx RAX l (elfSize (d .ty)) hl, placed ctx r hr, slotted ctx d hd)
-
-two-counted : (ctx : Context) (d : VarId) (l r : IrOp) (f : Size → List Instruction) (result : Register) (n : ℕ) → Var ctx d → Op ctx l → Op ctx r
-    → ((z : Size) → length (f z ++ move (slotOf (ctx .offsets) d) (Operand.Reg result) z ∷ []) ≡ n) → counted (twoLoads ctx d l r f result) ≡ ok (suc (suc n))
-unfolding twoLoads
-two-counted ctx d l r f result n hd hl hr e =
-    rw (sized _ d hd, loaded ctx RAX l (elfSize (d .ty)) hl, loaded ctx RCX r (elfSize (d .ty)) hr, slotted ctx d hd) (ap (λ k. ok (suc (suc k))) (e (elfSize (d .ty))))
-
-compared-counted : (ctx : Context) (d : VarId) (l r : IrOp) (size : Size) (cc : ConditionCode) → Var ctx d → Op ctx l → Op ctx r
-    → counted (compared ctx d RAX l RCX r size BinOp.Cmp cc []) ≡ ok 5
-unfolding compared
-compared-counted ctx d l r size cc hd hl hr = rw (loaded ctx RAX l size hl, loaded ctx RCX r size hr, slotted ctx d hd, sized _ d hd)
-
-comparison-counted : (ctx : Context) (d : VarId) (l r : IrOp) (cc : ConditionCode) → Var ctx d → Op ctx l → Op ctx r → counted (comparison ctx d l r cc) ≡ ok 5
-unfolding comparison
-comparison-counted ctx d l r cc hd hl hr =
-    rw (kind-known ctx l hl, size-known _ l hl, kind-integral 0 l) (compared-counted ctx d l r (valueSize l) _ hd hl hr)
-
-divided : (ctx : Context) (d : VarId) (l r : IrOp) (result : Register) → Var ctx d → Op ctx l → Op ctx r → counted (division ctx d l r result) ≡ ok 5
-unfolding division
-divided ctx d l r result hd hl hr = two-counted ctx d l r (dividing (isUnsigned (d .ty))) result 3 hd hl hr (λ z. long (isUnsigned (d .ty)) z)
-  where
-    long : (u : Bool) (z : Size) → length (dividing u z ++ move (slotOf (ctx .offsets) d) (Operand.Reg result) z ∷ []) ≡ 3
-    long true z = refl
-    long false z = refl
-
-binary-counted : (ctx : Context) (d : VarId) (l r : IrOp) (op : ℕ) → Var ctx d → Op ctx l → Op ctx r → (binaryCount op ≡ 0 → ⊥)
-    → counted (integerBinary ctx d (binaryOp op) l r) ≡ ok (binaryCount op)
-unfolding binaryOp binaryCount shift multiplication
-binary-counted ctx d l r zero hd hl hr h = absurd (h refl)
-binary-counted ctx d l r (suc zero) hd hl hr h = absurd (h refl)
-binary-counted ctx d l r (suc (suc zero)) hd hl hr h = simple-counted ctx d l r BinOp.Or hd hl hr
-binary-counted ctx d l r (suc (suc (suc zero))) hd hl hr h = simple-counted ctx d l r BinOp.Xor hd hl hr
-binary-counted ctx d l r (suc (suc (suc (suc zero)))) hd hl hr h = simple-counted ctx d l r BinOp.And hd hl hr
-binary-counted ctx d l r (suc (suc (suc (suc (suc zero))))) hd hl hr h = comparison-counted ctx d l r ConditionCode.E hd hl hr
-binary-counted ctx d l r (suc (suc (suc (suc (suc (suc zero)))))) hd hl hr h = comparison-counted ctx d l r ConditionCode.NE hd hl hr
-binary-counted ctx d l r (suc (suc (suc (suc (suc (suc (suc zero))))))) hd hl hr h = comparison-counted ctx d l r ConditionCode.L hd hl hr
-binary-counted ctx d l r (suc (suc (suc (suc (suc (suc (suc (suc zero)))))))) hd hl hr h = comparison-counted ctx d l r ConditionCode.LE hd hl hr
-binary-counted ctx d l r (suc (suc (suc (suc (suc (suc (suc (suc (suc zero))))))))) hd hl hr h = comparison-counted ctx d l r ConditionCode.G hd hl hr
-binary-counted ctx d l r (suc (suc (suc (suc (suc (suc (suc (suc (suc (suc zero)))))))))) hd hl hr h = comparison-counted ctx d l r ConditionCode.GE hd hl hr
-binary-counted ctx d l r (suc (suc (suc (suc (suc (suc (suc (suc (suc (suc (suc zero))))))))))) hd hl hr h = two-counted ctx d l r _ RAX 2 hd hl hr (λ z. refl)
-binary-counted ctx d l r (suc (suc (suc (suc (suc (suc (suc (suc (suc (suc (suc (suc zero)))))))))))) hd hl hr h = two-counted ctx d l r _ RAX 2 hd hl hr (λ z. refl)
-binary-counted ctx d l r (suc (suc (suc (suc (suc (suc (suc (suc (suc (suc (suc (suc (suc zero))))))))))))) hd hl hr h = simple-counted ctx d l r BinOp.Add hd hl hr
-binary-counted ctx d l r (suc (suc (suc (suc (suc (suc (suc (suc (suc (suc (suc (suc (suc (suc zero)))))))))))))) hd hl hr h = simple-counted ctx d l r BinOp.Sub hd hl hr
-binary-counted ctx d l r (suc (suc (suc (suc (suc (suc (suc (suc (suc (suc (suc (suc (suc (suc (suc zero))))))))))))))) hd hl hr h = two-counted ctx d l r _ RAX 2 hd hl hr (λ z. refl)
-binary-counted ctx d l r (suc (suc (suc (suc (suc (suc (suc (suc (suc (suc (suc (suc (suc (suc (suc (suc zero)))))))))))))))) hd hl hr h = divided ctx d l r RAX hd hl hr
-binary-counted ctx d l r (suc (suc (suc (suc (suc (suc (suc (suc (suc (suc (suc (suc (suc (suc (suc (suc (suc zero))))))))))))))))) hd hl hr h = divided ctx d l r RDX hd hl hr
-binary-counted ctx d l r (suc (suc (suc (suc (suc (suc (suc (suc (suc (suc (suc (suc (suc (suc (suc (suc (suc (suc n)))))))))))))))))) hd hl hr h = divided ctx d l r RDX hd hl hr
-
--- ---- the lists themselves
 
 -- a size that is given stands
 size-stands : (code : ℕ) (z : Size) → isInteger code ≡ true → sizeOr (elementSize (elementWidth code)) z ≡ elementSize (elementWidth code)
@@ -400,7 +337,7 @@ at-most-eight (suc (suc (suc (suc (suc (suc (suc (suc (suc (suc (suc (suc (suc n
 abbrev Widened : Context → VarId → VarId → ℕ → ℕ → Type 0
 Widened ctx d v m n =
     castBetween ctx d (widened false (source [] (slotOf (ctx .offsets) v) m)) false false n
-    ≡ ok (cond (eqb m 1) (loadFrom RAX (slotOf (ctx .offsets) v) Size.U8) (Instruction.Extend ExtendOp.Movsxd RAX (slotOf (ctx .offsets) v) Size.U32 Size.U64) ∷ move (slotOf (ctx .offsets) d) (Operand.Reg RAX) (elfSize (d .ty)) ∷ [])
+    ≡ ok (extended m (slotOf (ctx .offsets) v) ∷ move (slotOf (ctx .offsets) d) (Operand.Reg RAX) (elfSize (d .ty)) ∷ [])
 
 one-widened : (ctx : Context) (d v : VarId) (n : ℕ) → Var ctx d → Widened ctx d v 1 n
 unfolding castBetween loadFrom slotOf
@@ -432,41 +369,84 @@ code-of : (n : ℕ) (v : VarId) → isIntegerVar n v ≡ true → isInteger (v .
 unfolding isIntegerVar
 code-of n v h = second (isScalar (v .ty)) _ (second (ltb (v .id) n) _ h)
 
+-- a constant of four bytes, and of one
+constant-widened : (ctx : Context) (d : VarId) (v n : ℕ) (short unsigned : Bool) → Var ctx d → leb n (cond short 4 8) ≡ false → leb n 8 ≡ true
+    → (castOperand ctx (IrOp.Int v short unsigned) (cond short 4 8) >>= λ s. castBetween ctx d (widened false s) false false n)
+    ≡ ok (constantList (ctx .offsets) d (IrOp.Int v short unsigned))
+unfolding castOperand castBetween constantList valueWidth valueSize loadOperand loadValue convertOperand operandOf
+constant-widened ctx d v n true unsigned hd l m = rw (slotted ctx d hd, sized _ d hd)
+constant-widened ctx d v n false unsigned hd l m = apart (sym m ∙ l)
+
+bool-widened : (ctx : Context) (d : VarId) (b : Bool) (n : ℕ) → Var ctx d
+    → (castOperand ctx (IrOp.Bool b) 1 >>= λ s. castBetween ctx d (widened false s) false false n) ≡ ok (constantList (ctx .offsets) d (IrOp.Bool b))
+unfolding castOperand castBetween constantList valueWidth valueSize loadOperand loadValue convertOperand operandOf
+bool-widened ctx d b n hd = rw (slotted ctx d hd, sized _ d hd)
+
 -- the part of a cast behind its look-ups
-cast-wide : (ctx : Context) (d : VarId) (x : IrOp) → Var ctx d → Op ctx x → isQuickCast (d .ty .code) x ≡ true → leb (elementWidth (d .ty .code)) (valueWidth x) ≡ false
-    → (castOperand ctx x (valueWidth x) >>= λ s. castBetween ctx d (widened false s) false false (elementWidth (d .ty .code))) ≡ ok (castList (ctx .offsets) d x)
-unfolding isIntegerOperand isQuickCast castOperand valueWidth castList operandOf
-cast-wide ctx d (IrOp.Var v) hd hx hq l = rw (l, slotted ctx v hx) (var-widened ctx d v (v .ty .code) (d .ty .code) (code-of _ v hx) l hd)
-cast-wide ctx d (IrOp.Int v short unsigned) hd hx hq l = apart (sym (rw (l) at hq))
-cast-wide ctx d (IrOp.Float k) hd hx hq l = apart (sym hx)
-cast-wide ctx d (IrOp.Bool b) hd hx hq l = apart (sym (rw (l) at hq))
-cast-wide ctx d (IrOp.Address v) hd hx hq l = apart (sym hx)
-cast-wide ctx d (IrOp.DataAddress k) hd hx hq l = apart (sym hx)
-cast-wide ctx d IrOp.Null hd hx hq l = apart (sym (rw (l) at hq))
+cast-wide : (ctx : Context) (d : VarId) (x : IrOp) → Var ctx d → Op ctx x → leb (elementWidth (d .ty .code)) (valueWidth x) ≡ false
+    → (castOperand ctx x (valueWidth x) >>= λ s. castBetween ctx d (widened false s) false false (elementWidth (d .ty .code)))
+    ≡ ok (cond (isVar x) (widenedList (ctx .offsets) d x) (constantList (ctx .offsets) d x))
+unfolding isIntegerOperand castOperand valueWidth widenedList operandOf
+cast-wide ctx d (IrOp.Var v) hd hx l = rw (slotted ctx v hx) (var-widened ctx d v (v .ty .code) (d .ty .code) (code-of _ v hx) l hd)
+cast-wide ctx d (IrOp.Int v short unsigned) hd hx l = constant-widened ctx d v (elementWidth (d .ty .code)) short unsigned hd l (at-most-eight (d .ty .code))
+cast-wide ctx d (IrOp.Float k) hd hx l = apart (sym hx)
+cast-wide ctx d (IrOp.Bool b) hd hx l = bool-widened ctx d b (elementWidth (d .ty .code)) hd
+cast-wide ctx d (IrOp.Address v) hd hx l = apart (sym hx)
+cast-wide ctx d (IrOp.DataAddress k) hd hx l = apart (sym hx)
+cast-wide ctx d IrOp.Null hd hx l = apart (sym (at-most-eight (d .ty .code)) ∙ l)
 
-cast-narrow : (offsets : List ℕ) (d : VarId) (x : IrOp) → leb (elementWidth (d .ty .code)) (valueWidth x) ≡ true → castList offsets d x ≡ copyList offsets d x
-unfolding castList
-cast-narrow offsets d x e = rw (e)
-
-cast-made : (ctx : Context) (d : VarId) (x : IrOp) → Var ctx d → Op ctx x → isQuickCast (d .ty .code) x ≡ true → generateCast ctx d x ≡ ok (castList (ctx .offsets) d x)
-unfolding generateCast
-cast-made ctx d x hd hx hq =
+cast-made : (ctx : Context) (d : VarId) (x : IrOp) → Var ctx d → Op ctx x → generateCast ctx d x ≡ ok (castList (ctx .offsets) d x)
+unfolding generateCast castList
+cast-made ctx d x hd hx =
     rw (kind-known ctx x hx, width-known _ d hd, integral _ d hd, kind-integral 0 x, copies (kindOf x .size) (elementWidth (d .ty .code)), kind-width x)
     (go (leb (elementWidth (d .ty .code)) (valueWidth x)) refl)
   where
     go : (b : Bool) → leb (elementWidth (d .ty .code)) (valueWidth x) ≡ b
-        → cond (leb (elementWidth (d .ty .code)) (valueWidth x)) (generateCopy ctx d x) (castOperand ctx x (valueWidth x) >>= λ s. castBetween ctx d (widened false s) false false (elementWidth (d .ty .code)))
-        ≡ ok (castList (ctx .offsets) d x)
-    go true e = rw (e) (copy-made ctx d x hd hx ∙ sym (ap ok (cast-narrow (ctx .offsets) d x e)))
-    go false e = rw (e) (cast-wide ctx d x hd hx hq e)
+        → cond b (generateCopy ctx d x) (castOperand ctx x (valueWidth x) >>= λ s. castBetween ctx d (widened false s) false false (elementWidth (d .ty .code)))
+        ≡ ok (cond b (copyList (ctx .offsets) d x) (cond (isVar x) (widenedList (ctx .offsets) d x) (constantList (ctx .offsets) d x)))
+    go true e = copy-made ctx d x hd hx
+    go false e = cast-wide ctx d x hd hx e
 
-cast-long : (offsets : List ℕ) (d : VarId) (x : IrOp) → counted (ok (castList offsets d x)) ≡ ok 2
-unfolding castList copyList
-cast-long offsets d x = go (leb (elementWidth (d .ty .code)) (valueWidth x))
+cast-long : (offsets : List ℕ) (d : VarId) (x : IrOp) → length (castList offsets d x) ≡ castCount (d .ty .code) x
+unfolding castList castCount copyList widenedList constantList
+cast-long offsets d x = go (leb (elementWidth (d .ty .code)) (valueWidth x)) (isVar x)
   where
-    go : (b : Bool) → counted (ok (cond b (copyList offsets d x) (cond (eqb (valueWidth x) 1) (loadFrom RAX (operandOf offsets x) Size.U8) (Instruction.Extend ExtendOp.Movsxd RAX (operandOf offsets x) Size.U32 Size.U64) ∷ move (slotOf offsets d) (Operand.Reg RAX) (elfSize (d .ty)) ∷ []))) ≡ ok 2
-    go true = refl
-    go false = refl
+    go : (b v : Bool) → length (cond b (copyList offsets d x) (cond v (widenedList offsets d x) (constantList offsets d x))) ≡ cond (b || v) 2 3
+    go true v = refl
+    go false true = refl
+    go false false = refl
+
+-- ---- divisions
+
+divided : (unsigned : Bool) (size : Size) → dividing unsigned size ≡ clearOrSign unsigned size ∷ divideBy unsigned size ∷ []
+divided true size = refl
+divided false size = refl
+
+division-made : (ctx : Context) (d : VarId) (l r : IrOp) (result : Register) → Var ctx d → Op ctx l → Op ctx r
+    → division ctx d l r result ≡ ok (divisionList (ctx .offsets) d l r result)
+unfolding division twoLoads divisionList
+division-made ctx d l r result hd hl hr =
+    rw (
+      sized _ d hd,
+      loaded ctx RAX l (elfSize (d .ty)) hl,
+      loaded ctx RCX r (elfSize (d .ty)) hr,
+      slotted ctx d hd,
+      var-stands _ d (operandSize l) hd,
+      var-stands _ d (operandSize r) hd,
+      divided (isUnsigned (d .ty)) (elfSize (d .ty)),
+    )
+
+-- ---- zeros and returns
+
+zero-made : (ctx : Context) (d : VarId) → Var ctx d → generateZero ctx d ≡ ok (zeroList (ctx .offsets) d)
+unfolding generateZero zeroList
+zero-made ctx d hd = rw (width-known _ d hd, slotted ctx d hd)
+
+return-made : (ctx : Context) (ret : IrType) (x : IrOp) → Op ctx x → generateReturn ctx ret x ≡ ok (returnList (ctx .offsets) (isFloat ret) x)
+unfolding generateReturn returnList
+return-made ctx ret x hx = rw (loaded ctx (cond (isFloat ret) (xmm 0) RAX) x Size.NoSize hx)
+
+-- ---- any of them
 
 -- where the count is not 0 its condition holds
 holds : (b : Bool) (n : ℕ) → (cond b n 0 ≡ 0 → ⊥) → b ≡ true
@@ -477,43 +457,12 @@ nonzero : (b : Bool) (n : ℕ) → (cond b n 0 ≡ 0 → ⊥) → n ≡ 0 → �
 nonzero true n h = h
 nonzero false n h = absurd (h refl)
 
--- a count that is not 0 is the number of records
-pub quick-counted : (ctx : Context) (labels : ℕ) (ret : IrType) (i : Instr) (args : List IrOp) → (quickCount (length (ctx .offsets)) labels i ≡ 0 → ⊥)
-    → counted (generateInstr ctx labels ret i args) ≡ ok (quickCount (length (ctx .offsets)) labels i)
-unfolding quickCount generateInstr generateBinary generateLabel generateJump generateJmpIfNot generateReturn labelAt
-quick-counted ctx labels ret (Instr.Copy d x) args h =
-    let e = holds (isIntegerVar (length (ctx .offsets)) d && isIntegerOperand (length (ctx .offsets)) x) 2 h in
-    rw (e) (copy-counted ctx d x (first _ _ e) (second (isIntegerVar (length (ctx .offsets)) d) _ e))
-quick-counted ctx labels ret (Instr.Unary d op x) args h =
-    let e = holds (isIntegerVar (length (ctx .offsets)) d && isIntegerOperand (length (ctx .offsets)) x) 3 h in
-    rw (e) (unary-counted ctx d op x (first _ _ e) (second (isIntegerVar (length (ctx .offsets)) d) _ e))
-quick-counted ctx labels ret (Instr.Binary d op l r) args h =
-    let e = holds (isIntegerVar (length (ctx .offsets)) d && (isIntegerOperand (length (ctx .offsets)) l && isIntegerOperand (length (ctx .offsets)) r)) (binaryCount op) h in
-    let f = second (isIntegerVar (length (ctx .offsets)) d) _ e in
-    rw (e, integral _ d (first _ _ e))
-    (binary-counted ctx d l r op (first _ _ e) (first _ _ f) (second (isIntegerOperand (length (ctx .offsets)) l) _ f) (nonzero (isIntegerVar (length (ctx .offsets)) d && (isIntegerOperand (length (ctx .offsets)) l && isIntegerOperand (length (ctx .offsets)) r)) (binaryCount op) h))
-quick-counted ctx labels ret (Instr.Cast d x) args h =
-    let e = holds (isIntegerVar (length (ctx .offsets)) d && (isIntegerOperand (length (ctx .offsets)) x && isQuickCast (d .ty .code) x)) 2 h in
-    let f = second (isIntegerVar (length (ctx .offsets)) d) _ e in
-    rw (e, cast-made ctx d x (first _ _ e) (first _ _ f) (second (isIntegerOperand (length (ctx .offsets)) x) _ f)) (cast-long (ctx .offsets) d x)
-quick-counted ctx labels ret (Instr.Zero d) args h = absurd (h refl)
-quick-counted ctx labels ret (Instr.Call d symbol count) args h = absurd (h refl)
-quick-counted ctx labels ret (Instr.Label l) args h = rw (holds (ltb l labels) 1 h)
-quick-counted ctx labels ret (Instr.Jump l) args h = rw (holds (ltb l labels) 1 h)
-quick-counted ctx labels ret (Instr.JumpIfNot x l) args h =
-    let e = holds (isIntegerOperand (length (ctx .offsets)) x && ltb l labels) 3 h in
-    rw (e, loaded ctx RAX x Size.U8 (first _ _ e), second (isIntegerOperand (length (ctx .offsets)) x) _ e)
-quick-counted ctx labels ret (Instr.Return x) args h =
-    let e = holds (isIntegerOperand (length (ctx .offsets)) x) 4 h in
-    rw (e, loaded ctx (cond (isFloat ret) (xmm 0) RAX) x Size.NoSize e)
-quick-counted ctx labels ret Instr.Comment args h = absurd (h refl)
-
 abbrev pub Some : List Instruction → Type 0
 Some is = length is ≡ 0 → ⊥
 
-binary-made : (ctx : Context) (d : VarId) (l r : IrOp) (op : ℕ) → Var ctx d → Op ctx l → Op ctx r → Some (binaryList (ctx .offsets) d op l r)
+binary-made : (ctx : Context) (d : VarId) (l r : IrOp) (op : ℕ) → Var ctx d → Op ctx l → Op ctx r → (binaryCount op ≡ 0 → ⊥)
     → integerBinary ctx d (binaryOp op) l r ≡ ok (binaryList (ctx .offsets) d op l r)
-unfolding binaryOp binaryList
+unfolding binaryOp binaryList binaryCount
 binary-made ctx d l r zero hd hl hr h = absurd (h refl)
 binary-made ctx d l r (suc zero) hd hl hr h = absurd (h refl)
 binary-made ctx d l r (suc (suc zero)) hd hl hr h = simple-made ctx d l r BinOp.Or hd hl hr
@@ -530,42 +479,84 @@ binary-made ctx d l r (suc (suc (suc (suc (suc (suc (suc (suc (suc (suc (suc (su
 binary-made ctx d l r (suc (suc (suc (suc (suc (suc (suc (suc (suc (suc (suc (suc (suc zero))))))))))))) hd hl hr h = simple-made ctx d l r BinOp.Add hd hl hr
 binary-made ctx d l r (suc (suc (suc (suc (suc (suc (suc (suc (suc (suc (suc (suc (suc (suc zero)))))))))))))) hd hl hr h = simple-made ctx d l r BinOp.Sub hd hl hr
 binary-made ctx d l r (suc (suc (suc (suc (suc (suc (suc (suc (suc (suc (suc (suc (suc (suc (suc zero))))))))))))))) hd hl hr h = product-made ctx d l r hd hl hr
-binary-made ctx d l r (suc (suc (suc (suc (suc (suc (suc (suc (suc (suc (suc (suc (suc (suc (suc (suc n)))))))))))))))) hd hl hr h = absurd (h refl)
+binary-made ctx d l r (suc (suc (suc (suc (suc (suc (suc (suc (suc (suc (suc (suc (suc (suc (suc (suc zero)))))))))))))))) hd hl hr h = division-made ctx d l r RAX hd hl hr
+binary-made ctx d l r (suc (suc (suc (suc (suc (suc (suc (suc (suc (suc (suc (suc (suc (suc (suc (suc (suc zero))))))))))))))))) hd hl hr h = division-made ctx d l r RDX hd hl hr
+binary-made ctx d l r (suc (suc (suc (suc (suc (suc (suc (suc (suc (suc (suc (suc (suc (suc (suc (suc (suc (suc n)))))))))))))))))) hd hl hr h = division-made ctx d l r RDX hd hl hr
 
-open-made : (ctx : Context) (labels : ℕ) (ret : IrType) (i : Instr) (args : List IrOp) → (quickCount (length (ctx .offsets)) labels i ≡ 0 → ⊥) → Some (openList (ctx .offsets) i)
-    → generateInstr ctx labels ret i args ≡ ok (openList (ctx .offsets) i)
-unfolding quickCount generateInstr generateBinary generateLabel generateJump generateJmpIfNot labelAt openList branchList
-open-made ctx labels ret (Instr.Copy d x) args h k =
-    let e = holds (isIntegerVar (length (ctx .offsets)) d && isIntegerOperand (length (ctx .offsets)) x) 2 h in
-    copy-made ctx d x (first _ _ e) (second (isIntegerVar (length (ctx .offsets)) d) _ e)
-open-made ctx labels ret (Instr.Unary d op x) args h k =
-    let e = holds (isIntegerVar (length (ctx .offsets)) d && isIntegerOperand (length (ctx .offsets)) x) 3 h in
-    unary-made ctx d op x (first _ _ e) (second (isIntegerVar (length (ctx .offsets)) d) _ e)
-open-made ctx labels ret (Instr.Binary d op l r) args h k =
-    let e = holds (isIntegerVar (length (ctx .offsets)) d && (isIntegerOperand (length (ctx .offsets)) l && isIntegerOperand (length (ctx .offsets)) r)) (binaryCount op) h in
-    let f = second (isIntegerVar (length (ctx .offsets)) d) _ e in
-    rw (integral _ d (first _ _ e)) (binary-made ctx d l r op (first _ _ e) (first _ _ f) (second (isIntegerOperand (length (ctx .offsets)) l) _ f) k)
-open-made ctx labels ret (Instr.Cast d x) args h k =
-    let e = holds (isIntegerVar (length (ctx .offsets)) d && (isIntegerOperand (length (ctx .offsets)) x && isQuickCast (d .ty .code) x)) 2 h in
-    let f = second (isIntegerVar (length (ctx .offsets)) d) _ e in
-    cast-made ctx d x (first _ _ e) (first _ _ f) (second (isIntegerOperand (length (ctx .offsets)) x) _ f)
-open-made ctx labels ret (Instr.Zero d) args h k = absurd (k refl)
-open-made ctx labels ret (Instr.Call d symbol count) args h k = absurd (k refl)
-open-made ctx labels ret (Instr.Label l) args h k = rw (holds (ltb l labels) 1 h)
-open-made ctx labels ret (Instr.Jump l) args h k = rw (holds (ltb l labels) 1 h)
-open-made ctx labels ret (Instr.JumpIfNot x l) args h k =
-    let e = holds (isIntegerOperand (length (ctx .offsets)) x && ltb l labels) 3 h in
-    rw (loaded ctx RAX x Size.U8 (first _ _ e), second (isIntegerOperand (length (ctx .offsets)) x) _ e)
-open-made ctx labels ret (Instr.Return x) args h k = absurd (k refl)
-open-made ctx labels ret Instr.Comment args h k = absurd (k refl)
+binary-long : (offsets : List ℕ) (d : VarId) (l r : IrOp) (op : ℕ) → length (binaryList offsets d op l r) ≡ binaryCount op
+unfolding binaryList binaryCount simpleList comparedList shiftList productList divisionList
+binary-long offsets d l r zero = refl
+binary-long offsets d l r (suc zero) = refl
+binary-long offsets d l r (suc (suc zero)) = refl
+binary-long offsets d l r (suc (suc (suc zero))) = refl
+binary-long offsets d l r (suc (suc (suc (suc zero)))) = refl
+binary-long offsets d l r (suc (suc (suc (suc (suc zero))))) = refl
+binary-long offsets d l r (suc (suc (suc (suc (suc (suc zero)))))) = refl
+binary-long offsets d l r (suc (suc (suc (suc (suc (suc (suc zero))))))) = refl
+binary-long offsets d l r (suc (suc (suc (suc (suc (suc (suc (suc zero)))))))) = refl
+binary-long offsets d l r (suc (suc (suc (suc (suc (suc (suc (suc (suc zero))))))))) = refl
+binary-long offsets d l r (suc (suc (suc (suc (suc (suc (suc (suc (suc (suc zero)))))))))) = refl
+binary-long offsets d l r (suc (suc (suc (suc (suc (suc (suc (suc (suc (suc (suc zero))))))))))) = refl
+binary-long offsets d l r (suc (suc (suc (suc (suc (suc (suc (suc (suc (suc (suc (suc zero)))))))))))) = refl
+binary-long offsets d l r (suc (suc (suc (suc (suc (suc (suc (suc (suc (suc (suc (suc (suc zero))))))))))))) = refl
+binary-long offsets d l r (suc (suc (suc (suc (suc (suc (suc (suc (suc (suc (suc (suc (suc (suc zero)))))))))))))) = refl
+binary-long offsets d l r (suc (suc (suc (suc (suc (suc (suc (suc (suc (suc (suc (suc (suc (suc (suc zero))))))))))))))) = refl
+binary-long offsets d l r (suc (suc (suc (suc (suc (suc (suc (suc (suc (suc (suc (suc (suc (suc (suc (suc zero)))))))))))))))) = refl
+binary-long offsets d l r (suc (suc (suc (suc (suc (suc (suc (suc (suc (suc (suc (suc (suc (suc (suc (suc (suc n))))))))))))))))) = refl
 
--- a list that is not empty is the list maker's
-pub quick-made : (ctx : Context) (labels : ℕ) (ret : IrType) (i : Instr) (args : List IrOp) → Some (quickList (ctx .offsets) labels i)
-    → generateInstr ctx labels ret i args ≡ ok (quickList (ctx .offsets) labels i)
-unfolding quickList
-quick-made ctx labels ret i args h = go (eqb (quickCount (length (ctx .offsets)) labels i) 0) refl
-  where
-    go : (b : Bool) → eqb (quickCount (length (ctx .offsets)) labels i) 0 ≡ b → generateInstr ctx labels ret i args ≡ ok (cond (eqb (quickCount (length (ctx .offsets)) labels i) 0) [] (openList (ctx .offsets) i))
-    go true e = absurd (h (rw (e)))
-    go false e =
-        rw (e) (open-made ctx labels ret i args (λ z. apart (sym (eq-eqb (quickCount (length (ctx .offsets)) labels i) 0 z) ∙ e)) (λ z. h (rw (e) z)))
+-- an instruction whose count is not 0
+module _ (ctx : Context) (labels : ℕ) (ret : IrType) (args : List IrOp) where
+  open-made : (i : Instr) → (quickCount (length (ctx .offsets)) labels i ≡ 0 → ⊥) → generateInstr ctx labels ret i args ≡ ok (openList (ctx .offsets) (isFloat ret) i)
+  unfolding quickCount generateInstr generateBinary generateLabel generateJump generateJmpIfNot labelAt openList branchList
+  open-made (Instr.Copy d x) h =
+      let e = holds (isIntegerVar (length (ctx .offsets)) d && isIntegerOperand (length (ctx .offsets)) x) 2 h in
+      copy-made ctx d x (first _ _ e) (second (isIntegerVar (length (ctx .offsets)) d) _ e)
+  open-made (Instr.Unary d op x) h =
+      let e = holds (isIntegerVar (length (ctx .offsets)) d && isIntegerOperand (length (ctx .offsets)) x) 3 h in
+      unary-made ctx d op x (first _ _ e) (second (isIntegerVar (length (ctx .offsets)) d) _ e)
+  open-made (Instr.Binary d op l r) h =
+      let b = isIntegerVar (length (ctx .offsets)) d && (isIntegerOperand (length (ctx .offsets)) l && isIntegerOperand (length (ctx .offsets)) r) in
+      let e = holds b (binaryCount op) h in
+      let f = second (isIntegerVar (length (ctx .offsets)) d) _ e in
+      rw (integral _ d (first _ _ e)) (binary-made ctx d l r op (first _ _ e) (first _ _ f) (second (isIntegerOperand (length (ctx .offsets)) l) _ f) (nonzero b (binaryCount op) h))
+  open-made (Instr.Cast d x) h =
+      let e = holds (isIntegerVar (length (ctx .offsets)) d && isIntegerOperand (length (ctx .offsets)) x) (castCount (d .ty .code) x) h in
+      cast-made ctx d x (first _ _ e) (second (isIntegerVar (length (ctx .offsets)) d) _ e)
+  open-made (Instr.Zero d) h = zero-made ctx d (holds (isIntegerVar (length (ctx .offsets)) d) 4 h)
+  open-made (Instr.Call d symbol count) h = absurd (h refl)
+  open-made (Instr.Label l) h = rw (holds (ltb l labels) 1 h)
+  open-made (Instr.Jump l) h = rw (holds (ltb l labels) 1 h)
+  open-made (Instr.JumpIfNot x l) h =
+      let e = holds (isIntegerOperand (length (ctx .offsets)) x && ltb l labels) 3 h in
+      rw (loaded ctx RAX x Size.U8 (first _ _ e), second (isIntegerOperand (length (ctx .offsets)) x) _ e)
+  open-made (Instr.Return x) h = return-made ctx ret x (holds (isIntegerOperand (length (ctx .offsets)) x) 4 h)
+  open-made Instr.Comment h = absurd (h refl)
+
+  -- its count is the list's length
+  open-long : (i : Instr) → (quickCount (length (ctx .offsets)) labels i ≡ 0 → ⊥) → length (openList (ctx .offsets) (isFloat ret) i) ≡ quickCount (length (ctx .offsets)) labels i
+  unfolding quickCount openList copyList unaryList branchList zeroList returnList
+  open-long (Instr.Copy d x) h = rw (holds (isIntegerVar (length (ctx .offsets)) d && isIntegerOperand (length (ctx .offsets)) x) 2 h)
+  open-long (Instr.Unary d op x) h = rw (holds (isIntegerVar (length (ctx .offsets)) d && isIntegerOperand (length (ctx .offsets)) x) 3 h)
+  open-long (Instr.Binary d op l r) h = rw (holds (isIntegerVar (length (ctx .offsets)) d && (isIntegerOperand (length (ctx .offsets)) l && isIntegerOperand (length (ctx .offsets)) r)) (binaryCount op) h) (binary-long (ctx .offsets) d l r op)
+  open-long (Instr.Cast d x) h = rw (holds (isIntegerVar (length (ctx .offsets)) d && isIntegerOperand (length (ctx .offsets)) x) (castCount (d .ty .code) x) h) (cast-long (ctx .offsets) d x)
+  open-long (Instr.Zero d) h = rw (holds (isIntegerVar (length (ctx .offsets)) d) 4 h)
+  open-long (Instr.Call d symbol count) h = absurd (h refl)
+  open-long (Instr.Label l) h = rw (holds (ltb l labels) 1 h)
+  open-long (Instr.Jump l) h = rw (holds (ltb l labels) 1 h)
+  open-long (Instr.JumpIfNot x l) h = rw (holds (isIntegerOperand (length (ctx .offsets)) x && ltb l labels) 3 h)
+  open-long (Instr.Return x) h = rw (holds (isIntegerOperand (length (ctx .offsets)) x) 4 h)
+  open-long Instr.Comment h = absurd (h refl)
+
+  -- a count that is not 0 is the number of records
+  pub quick-counted : (i : Instr) → (quickCount (length (ctx .offsets)) labels i ≡ 0 → ⊥) → counted (generateInstr ctx labels ret i args) ≡ ok (quickCount (length (ctx .offsets)) labels i)
+  quick-counted i h = ap counted (open-made i h) ∙ ap ok (open-long i h)
+
+  -- a list that is not empty is the list maker's
+  pub quick-made : (i : Instr) → Some (quickList (ctx .offsets) labels (isFloat ret) i) → generateInstr ctx labels ret i args ≡ ok (quickList (ctx .offsets) labels (isFloat ret) i)
+  unfolding quickList
+  quick-made i h = go (eqb (quickCount (length (ctx .offsets)) labels i) 0) refl
+    where
+      go : (b : Bool) → eqb (quickCount (length (ctx .offsets)) labels i) 0 ≡ b
+          → generateInstr ctx labels ret i args ≡ ok (cond (eqb (quickCount (length (ctx .offsets)) labels i) 0) [] (openList (ctx .offsets) (isFloat ret) i))
+      go true e = absurd (h (rw (e)))
+      go false e = rw (e) (open-made i (λ z. apart (sym (eq-eqb (quickCount (length (ctx .offsets)) labels i) 0 z) ∙ e)))

@@ -1,7 +1,7 @@
 -- What the `_` of a match on a number leaves.
 use Prim.Native.Nat.{ℕ, zero, suc, _+_, _≤_, _<_}
 use mathlib.Core.Path.{_≡_, refl}
-use mathlib.Core.Bool.{Bool, true, false}
+use mathlib.Core.Bool.{Bool, true, false, cond}
 use mathlib.Core.List.{List, [], _∷_}
 use lib.ListN.{getD}
 use Rattle.cells.specs.Cells.{cellAt}
@@ -14,7 +14,7 @@ use lib.Dec.{ltb, eqb}
 use Rattle.ir.specs.Types.{noArray, elementWidth}
 use borrow.Author.Tests.{le-leb, lt-leb, ne-eqb}
 use Rattle.ir.specs.Function.{varAt}
-use Rattle.integers.specs.Integers.{isInteger, isIntegerVar, isIntegerOperand, binaryCount, quickCount, valueWidth, isVar, isQuickCast}
+use Rattle.integers.specs.Integers.{isInteger, isIntegerVar, isIntegerOperand, binaryCount, quickCount, valueWidth, isVar, castCount}
 
 pub no-integer : (c : ℕ) → (c ≡ 1 → ⊥) → (c ≡ 2 → ⊥) → (c ≡ 3 → ⊥) → (c ≡ 4 → ⊥) → (c ≡ 7 → ⊥) → (c ≡ 8 → ⊥) → (c ≡ 9 → ⊥) → (c ≡ 10 → ⊥) → false ≡ isInteger c
 unfolding isInteger
@@ -67,23 +67,23 @@ constant n s k = go (cellAt s k)
     go (suc (suc (suc (suc (suc (suc n)))))) h0 h2 h4 h5 = refl
 
 -- the instructions that are left to the list makers
-pub left-over : (n labels : ℕ) (s : List ℕ) (k : ℕ) → (cellAt s k ≡ 0 → ⊥) → (cellAt s k ≡ 1 → ⊥) → (cellAt s k ≡ 2 → ⊥) → (cellAt s k ≡ 3 → ⊥) → (cellAt s k ≡ 6 → ⊥) → (cellAt s k ≡ 7 → ⊥) → (cellAt s k ≡ 8 → ⊥) → (cellAt s k ≡ 9 → ⊥) → 0 ≡ quickCount n labels (instrAt s k)
+pub left-over : (n labels : ℕ) (s : List ℕ) (k : ℕ) → (cellAt s k ≡ 0 → ⊥) → (cellAt s k ≡ 1 → ⊥) → (cellAt s k ≡ 2 → ⊥) → (cellAt s k ≡ 3 → ⊥) → (cellAt s k ≡ 4 → ⊥) → (cellAt s k ≡ 6 → ⊥) → (cellAt s k ≡ 7 → ⊥) → (cellAt s k ≡ 8 → ⊥) → (cellAt s k ≡ 9 → ⊥) → 0 ≡ quickCount n labels (instrAt s k)
 unfolding instrAt quickCount
 left-over n labels s k = go (cellAt s k)
   where
-    go : (c : ℕ) → (c ≡ 0 → ⊥) → (c ≡ 1 → ⊥) → (c ≡ 2 → ⊥) → (c ≡ 3 → ⊥) → (c ≡ 6 → ⊥) → (c ≡ 7 → ⊥) → (c ≡ 8 → ⊥) → (c ≡ 9 → ⊥)
+    go : (c : ℕ) → (c ≡ 0 → ⊥) → (c ≡ 1 → ⊥) → (c ≡ 2 → ⊥) → (c ≡ 3 → ⊥) → (c ≡ 4 → ⊥) → (c ≡ 6 → ⊥) → (c ≡ 7 → ⊥) → (c ≡ 8 → ⊥) → (c ≡ 9 → ⊥)
         → 0 ≡ quickCount n labels (getD (copyAt ∷ unaryAt ∷ binaryAt ∷ castAt ∷ zeroAt ∷ callAt ∷ labelAt ∷ jumpAt ∷ jumpIfNotAt ∷ returnAt ∷ []) c (λ s k. Instr.Comment) s k)
-    go zero h0 h1 h2 h3 h6 h7 h8 h9 = absurd (h0 refl)
-    go (suc zero) h0 h1 h2 h3 h6 h7 h8 h9 = absurd (h1 refl)
-    go (suc (suc zero)) h0 h1 h2 h3 h6 h7 h8 h9 = absurd (h2 refl)
-    go (suc (suc (suc zero))) h0 h1 h2 h3 h6 h7 h8 h9 = absurd (h3 refl)
-    go (suc (suc (suc (suc zero)))) h0 h1 h2 h3 h6 h7 h8 h9 = refl
-    go (suc (suc (suc (suc (suc zero))))) h0 h1 h2 h3 h6 h7 h8 h9 = refl
-    go (suc (suc (suc (suc (suc (suc zero)))))) h0 h1 h2 h3 h6 h7 h8 h9 = absurd (h6 refl)
-    go (suc (suc (suc (suc (suc (suc (suc zero))))))) h0 h1 h2 h3 h6 h7 h8 h9 = absurd (h7 refl)
-    go (suc (suc (suc (suc (suc (suc (suc (suc zero)))))))) h0 h1 h2 h3 h6 h7 h8 h9 = absurd (h8 refl)
-    go (suc (suc (suc (suc (suc (suc (suc (suc (suc zero))))))))) h0 h1 h2 h3 h6 h7 h8 h9 = absurd (h9 refl)
-    go (suc (suc (suc (suc (suc (suc (suc (suc (suc (suc n)))))))))) h0 h1 h2 h3 h6 h7 h8 h9 = refl
+    go zero h0 h1 h2 h3 h4 h6 h7 h8 h9 = absurd (h0 refl)
+    go (suc zero) h0 h1 h2 h3 h4 h6 h7 h8 h9 = absurd (h1 refl)
+    go (suc (suc zero)) h0 h1 h2 h3 h4 h6 h7 h8 h9 = absurd (h2 refl)
+    go (suc (suc (suc zero))) h0 h1 h2 h3 h4 h6 h7 h8 h9 = absurd (h3 refl)
+    go (suc (suc (suc (suc zero)))) h0 h1 h2 h3 h4 h6 h7 h8 h9 = absurd (h4 refl)
+    go (suc (suc (suc (suc (suc zero))))) h0 h1 h2 h3 h4 h6 h7 h8 h9 = refl
+    go (suc (suc (suc (suc (suc (suc zero)))))) h0 h1 h2 h3 h4 h6 h7 h8 h9 = absurd (h6 refl)
+    go (suc (suc (suc (suc (suc (suc (suc zero))))))) h0 h1 h2 h3 h4 h6 h7 h8 h9 = absurd (h7 refl)
+    go (suc (suc (suc (suc (suc (suc (suc (suc zero)))))))) h0 h1 h2 h3 h4 h6 h7 h8 h9 = absurd (h8 refl)
+    go (suc (suc (suc (suc (suc (suc (suc (suc (suc zero))))))))) h0 h1 h2 h3 h4 h6 h7 h8 h9 = absurd (h9 refl)
+    go (suc (suc (suc (suc (suc (suc (suc (suc (suc (suc n)))))))))) h0 h1 h2 h3 h4 h6 h7 h8 h9 = refl
 
 -- a variable, by its cells
 two : (k : ℕ) → k + 1 + 1 ≡ k + 2
@@ -134,7 +134,7 @@ wide-operand s k = go (cellAt s k)
     go (suc (suc (suc (suc (suc (suc n)))))) h0 h1 h3 = refl
 
 -- whether an operand is a variable
-is-var : (s : List ℕ) (k : ℕ) → eqb (cellAt s k) 0 ≡ isVar (operandAt s k)
+pub is-var : (s : List ℕ) (k : ℕ) → eqb (cellAt s k) 0 ≡ isVar (operandAt s k)
 unfolding operandAt
 is-var s k = go (cellAt s k)
   where
@@ -148,10 +148,10 @@ is-var s k = go (cellAt s k)
     go (suc (suc (suc (suc (suc (suc n)))))) = ne-eqb (suc (suc (suc (suc (suc (suc n)))))) 0 (λ z. omega (arith, z))
 
 -- a cast by its widths, and by whether it is one of a variable
-pub narrow : (code : ℕ) (x : IrOp) → elementWidth code ≤ valueWidth x → true ≡ isQuickCast code x
-unfolding isQuickCast
+pub narrow : (code : ℕ) (x : IrOp) → elementWidth code ≤ valueWidth x → 2 ≡ castCount code x
+unfolding castCount
 narrow code x h = rw (le-leb (elementWidth code) (valueWidth x) h)
 
-pub wide : (code : ℕ) (s : List ℕ) (k : ℕ) → valueWidth (operandAt s k) < elementWidth code → eqb (cellAt s k) 0 ≡ isQuickCast code (operandAt s k)
-unfolding isQuickCast
-wide code s k h = rw (lt-leb (elementWidth code) (valueWidth (operandAt s k)) h) (is-var s k)
+pub wide : (code : ℕ) (s : List ℕ) (k : ℕ) → valueWidth (operandAt s k) < elementWidth code → cond (eqb (cellAt s k) 0) 2 3 ≡ castCount code (operandAt s k)
+unfolding castCount
+wide code s k h = rw (lt-leb (elementWidth code) (valueWidth (operandAt s k)) h, is-var s k)

@@ -9,7 +9,7 @@ use Rattle.ir.specs.declared.VarId.{VarId}
 use Rattle.ir.specs.declared.Operand.{Operand as IrOp}
 use Rattle.ir.specs.declared.UnaryOp.{UnaryOp}
 use Rattle.ir.specs.declared.Instr.{Instr}
-use Rattle.ir.specs.Types.{isScalar, isUnsigned, elementWidth, elfSize}
+use Rattle.ir.specs.Types.{isScalar, isUnsigned, elementWidth, elfSize, operandSize}
 use Rattle.x86.specs.declared.register.Register.{Register}
 use Rattle.x86.specs.declared.enums.Size.{Size}
 use Rattle.x86.specs.declared.enums.Operand.{Operand}
@@ -19,13 +19,15 @@ use Rattle.x86.specs.declared.enums.ExtendOp.{ExtendOp}
 use Rattle.x86.specs.declared.enums.ShiftOp.{ShiftOp}
 use Rattle.x86.specs.declared.enums.ComplexBinOp.{ComplexBinOp}
 use Rattle.x86.specs.declared.enums.UnaryOp as elf
+use Rattle.x86.specs.declared.enums.Prefix.{Prefix}
+use Rattle.x86.specs.declared.enums.StringOp.{StringOp}
 use Rattle.x86.specs.declared.enums.ConditionCode.{ConditionCode}
 use Rattle.x86.specs.declared.enums.Instruction.{Instruction}
-use Rattle.x86.specs.Registers.{rbpPlus, RAX, RCX}
+use Rattle.x86.specs.Registers.{rbpPlus, xmm, RAX, RCX, RDX, RDI}
 use Rattle.x86.specs.Records.{Record, cellsRecord, sizeCode, recordOf}
 use Rattle.codegen.specs.Utils.{isOneByte, loadFrom}
-use Rattle.codegen.specs.Instructions.{move}
-use Rattle.codegen.specs.Arithmetic.{unsignedCode}
+use Rattle.codegen.specs.Instructions.{move, funcEpilogue}
+use Rattle.codegen.specs.Arithmetic.{unsignedCode, signInto}
 
 -- the codes of integers, Bool, Char, Byte and Address (01, "Sheet and tables")
 unfoldable pub isInteger : ℕ → Bool
@@ -59,6 +61,7 @@ valueWidth (IrOp.Address v) = 8
 valueWidth (IrOp.DataAddress k) = 8
 valueWidth IrOp.Null = 8
 
+-- whether it is a variable
 abbrev pub isVar : IrOp → Bool
 isVar (IrOp.Var v) = true
 isVar (IrOp.Int v short unsigned) = false
@@ -68,17 +71,17 @@ isVar (IrOp.Address v) = false
 isVar (IrOp.DataAddress k) = false
 isVar IrOp.Null = false
 
--- a cast to no more bytes, or of a variable: two records
-unfoldable pub isQuickCast : ℕ → IrOp → Bool
-isQuickCast code x = leb (elementWidth code) (valueWidth x) || isVar x
+-- the records of a cast: two where it is to no more bytes, or of a variable, else three
+unfoldable pub castCount : ℕ → IrOp → ℕ
+castCount code x = cond (leb (elementWidth code) (valueWidth x) || isVar x) 2 3
 
 -- the number of records with n slots and so many labels; 0 for what is left to the list makers
 unfoldable pub quickCount : ℕ → ℕ → Instr → ℕ
 quickCount n labels (Instr.Copy dest src) = cond (isIntegerVar n dest && isIntegerOperand n src) 2 0
 quickCount n labels (Instr.Unary dest op src) = cond (isIntegerVar n dest && isIntegerOperand n src) 3 0
 quickCount n labels (Instr.Binary dest op left right) = cond (isIntegerVar n dest && (isIntegerOperand n left && isIntegerOperand n right)) (binaryCount op) 0
-quickCount n labels (Instr.Cast dest src) = cond (isIntegerVar n dest && (isIntegerOperand n src && isQuickCast (dest .ty .code) src)) 2 0
-quickCount n labels (Instr.Zero dest) = 0
+quickCount n labels (Instr.Cast dest src) = cond (isIntegerVar n dest && isIntegerOperand n src) (castCount (dest .ty .code) src) 0
+quickCount n labels (Instr.Zero dest) = cond (isIntegerVar n dest) 4 0
 quickCount n labels (Instr.Call dest symbol count) = 0
 quickCount n labels (Instr.Label l) = cond (ltb l labels) 1 0
 quickCount n labels (Instr.Jump l) = cond (ltb l labels) 1 0
@@ -92,6 +95,7 @@ quickCount n labels Instr.Comment = 0
 unfoldable pub slotOf : List ℕ → VarId → Operand
 slotOf offsets v = rbpPlus (minus (getD offsets (v .id) 0))
 
+-- an operand: a slot, or a constant
 unfoldable pub operandOf : List ℕ → IrOp → Operand
 operandOf offsets (IrOp.Var v) = slotOf offsets v
 operandOf offsets (IrOp.Int v short unsigned) = Operand.Imm v
@@ -121,12 +125,15 @@ valueUnsigned (IrOp.Address v) = true
 valueUnsigned (IrOp.DataAddress k) = true
 valueUnsigned IrOp.Null = true
 
+-- an operand into a register
 abbrev pub load : List ℕ → Register → IrOp → Size → Instruction
 load offsets reg x size = loadFrom reg (operandOf offsets x) size
 
+-- a register into a variable's slot
 abbrev pub store : List ℕ → VarId → Register → Instruction
 store offsets d reg = move (slotOf offsets d) (Operand.Reg reg) (elfSize (d .ty))
 
+-- `mov rax, left ; op rax, right ; mov [dest], rax`
 unfoldable pub simpleList : List ℕ → VarId → IrOp → IrOp → BinOp → List Instruction
 simpleList offsets d l r op =
     load offsets RAX l (elfSize (d .ty)) ∷ Instruction.Binary op (Operand.Reg RAX) (operandOf offsets r) (elfSize (d .ty)) ∷ store offsets d RAX ∷ []
@@ -138,6 +145,7 @@ comparedList offsets d l r cc =
     ∷ Instruction.Binary BinOp.Cmp (Operand.Reg RAX) (Operand.Reg RCX) (valueSize l)
     ∷ Instruction.SetCC (cond (valueUnsigned l) (unsignedCode cc) cc) (Operand.Reg RAX) ∷ store offsets d RAX ∷ []
 
+-- `mov rax, src ; mov [dest], rax`
 unfoldable pub copyList : List ℕ → VarId → IrOp → List Instruction
 copyList offsets d x = load offsets RAX x (elfSize (d .ty)) ∷ store offsets d RAX ∷ []
 
@@ -147,6 +155,7 @@ shiftList offsets d l r op =
     load offsets RAX l (elfSize (d .ty)) ∷ load offsets RCX r (elfSize (d .ty))
     ∷ Instruction.Shift op (Operand.Reg RAX) (Operand.Reg RCX) (elfSize (d .ty)) ∷ store offsets d RAX ∷ []
 
+-- `mov rax, left ; mov rcx, right ; imul rax, rcx ; mov [dest], rax`
 unfoldable pub productList : List ℕ → VarId → IrOp → IrOp → List Instruction
 productList offsets d l r =
     load offsets RAX l (elfSize (d .ty)) ∷ load offsets RCX r (elfSize (d .ty))
@@ -158,21 +167,59 @@ unaryRecord UnaryOp.Neg size = Instruction.Unary elf.UnaryOp.Neg (Operand.Reg RA
 unaryRecord UnaryOp.BitNot size = Instruction.Unary elf.UnaryOp.Not (Operand.Reg RAX) size
 unaryRecord UnaryOp.Not size = Instruction.Binary BinOp.Xor (Operand.Reg RAX) (Operand.Imm 1) size
 
+-- `mov rax, src ; op rax ; mov [dest], rax`
 unfoldable pub unaryList : List ℕ → VarId → UnaryOp → IrOp → List Instruction
 unaryList offsets d op x = load offsets RAX x (elfSize (d .ty)) ∷ unaryRecord op (elfSize (d .ty)) ∷ store offsets d RAX ∷ []
 
--- as a copy where the low bytes are enough; else one byte is widened with zeros, and four with the sign
+-- one byte is widened with zeros, and four with the sign
+abbrev pub extended : ℕ → Operand → Instruction
+extended width x = cond (eqb width 1) (Instruction.Extend ExtendOp.Movzx RAX x Size.U8 Size.U64) (Instruction.Extend ExtendOp.Movsxd RAX x Size.U32 Size.U64)
+
+-- a variable is widened from its slot
+unfoldable pub widenedList : List ℕ → VarId → IrOp → List Instruction
+widenedList offsets d x = extended (valueWidth x) (operandOf offsets x) ∷ store offsets d RAX ∷ []
+
+-- a constant is widened in RAX
+unfoldable pub constantList : List ℕ → VarId → IrOp → List Instruction
+constantList offsets d x = load offsets RAX x (valueSize x) ∷ extended (valueWidth x) (Operand.Reg RAX) ∷ store offsets d RAX ∷ []
+
+-- as a copy where the low bytes are enough
 unfoldable pub castList : List ℕ → VarId → IrOp → List Instruction
 castList offsets d x =
-    cond (leb (elementWidth (d .ty .code)) (valueWidth x)) (copyList offsets d x)
-    (cond (eqb (valueWidth x) 1) (load offsets RAX x Size.U8) (Instruction.Extend ExtendOp.Movsxd RAX (operandOf offsets x) Size.U32 Size.U64) ∷ store offsets d RAX ∷ [])
+    cond (leb (elementWidth (d .ty .code)) (valueWidth x)) (copyList offsets d x) (cond (isVar x) (widenedList offsets d x) (constantList offsets d x))
 
+-- RDX is cleared for an unsigned dest, else RAX's sign is extended into it
+abbrev pub clearOrSign : Bool → Size → Instruction
+clearOrSign unsigned size =
+    cond unsigned (Instruction.Binary BinOp.Xor (Operand.Reg RDX) (Operand.Reg RDX) size) (Instruction.Unary (signInto size) Operand.NoOperand size)
+
+-- `div rcx`, or `idiv rcx`
+abbrev pub divideBy : Bool → Size → Instruction
+divideBy unsigned size = Instruction.ComplexBinary (cond unsigned ComplexBinOp.Div ComplexBinOp.Idiv) Operand.NoOperand (Operand.Reg RCX) size
+
+-- a division: its quotient is in RAX, its remainder in RDX
+unfoldable pub divisionList : List ℕ → VarId → IrOp → IrOp → Register → List Instruction
+divisionList offsets d l r result =
+    load offsets RAX l (elfSize (d .ty)) ∷ load offsets RCX r (elfSize (d .ty)) ∷ clearOrSign (isUnsigned (d .ty)) (elfSize (d .ty))
+    ∷ divideBy (isUnsigned (d .ty)) (elfSize (d .ty)) ∷ store offsets d result ∷ []
+
+-- `lea rdi, [dest] ; mov rcx, width ; mov rax, 0 ; rep stosb`
+unfoldable pub zeroList : List ℕ → VarId → List Instruction
+zeroList offsets d =
+    Instruction.Lea (slotOf offsets d) RDI Size.NoSize ∷ move (Operand.Reg RCX) (Operand.Imm (elementWidth (d .ty .code))) Size.U64
+    ∷ move (Operand.Reg RAX) (Operand.Imm 0) Size.U64 ∷ Instruction.Prefix Prefix.Rep StringOp.Stos Size.U8 ∷ []
+
+-- the value in RAX, or in XMM0 for a float return type; then the epilogue
+unfoldable pub returnList : List ℕ → Bool → IrOp → List Instruction
+returnList offsets float x = load offsets (cond float (xmm 0) RAX) x (operandSize x) ∷ funcEpilogue
+
+-- `mov al, condition ; cmp al, 0 ; je label`
 unfoldable pub branchList : List ℕ → IrOp → ℕ → List Instruction
 branchList offsets x l =
     load offsets RAX x Size.U8 ∷ Instruction.Binary BinOp.Cmp (Operand.Reg RAX) (Operand.Imm 0) Size.U8
     ∷ Instruction.Ctrl (CtrlOp.JmpCC ConditionCode.E) (Operand.Label l) ∷ []
 
--- by the operation's number; none for those that are left to their list makers
+-- by the operation's number; none for the logical pair
 unfoldable pub binaryList : List ℕ → VarId → ℕ → IrOp → IrOp → List Instruction
 binaryList offsets d op l r =
     getD
@@ -180,25 +227,25 @@ binaryList offsets d op l r =
     ∷ comparedList offsets d l r ConditionCode.E ∷ comparedList offsets d l r ConditionCode.NE ∷ comparedList offsets d l r ConditionCode.L
     ∷ comparedList offsets d l r ConditionCode.LE ∷ comparedList offsets d l r ConditionCode.G ∷ comparedList offsets d l r ConditionCode.GE
     ∷ shiftList offsets d l r ShiftOp.Shl ∷ shiftList offsets d l r (cond (isUnsigned (d .ty)) ShiftOp.Shr ShiftOp.Sar) ∷ simpleList offsets d l r BinOp.Add
-    ∷ simpleList offsets d l r BinOp.Sub ∷ productList offsets d l r ∷ []) op []
+    ∷ simpleList offsets d l r BinOp.Sub ∷ productList offsets d l r ∷ divisionList offsets d l r RAX ∷ []) op (divisionList offsets d l r RDX)
 
--- the list with these offsets, of those that are written from their cells
-unfoldable pub openList : List ℕ → Instr → List Instruction
-openList offsets (Instr.Copy dest src) = copyList offsets dest src
-openList offsets (Instr.Unary dest op src) = unaryList offsets dest op src
-openList offsets (Instr.Binary dest op left right) = binaryList offsets dest op left right
-openList offsets (Instr.Cast dest src) = castList offsets dest src
-openList offsets (Instr.Zero dest) = []
-openList offsets (Instr.Call dest symbol count) = []
-openList offsets (Instr.Label l) = Instruction.Label l ∷ []
-openList offsets (Instr.Jump l) = Instruction.Ctrl CtrlOp.Jmp (Operand.Label l) ∷ []
-openList offsets (Instr.JumpIfNot condition target) = branchList offsets condition target
-openList offsets (Instr.Return op) = []
-openList offsets Instr.Comment = []
+-- the list with these offsets, by whether the return type is a float
+unfoldable pub openList : List ℕ → Bool → Instr → List Instruction
+openList offsets float (Instr.Copy dest src) = copyList offsets dest src
+openList offsets float (Instr.Unary dest op src) = unaryList offsets dest op src
+openList offsets float (Instr.Binary dest op left right) = binaryList offsets dest op left right
+openList offsets float (Instr.Cast dest src) = castList offsets dest src
+openList offsets float (Instr.Zero dest) = zeroList offsets dest
+openList offsets float (Instr.Call dest symbol count) = []
+openList offsets float (Instr.Label l) = Instruction.Label l ∷ []
+openList offsets float (Instr.Jump l) = Instruction.Ctrl CtrlOp.Jmp (Operand.Label l) ∷ []
+openList offsets float (Instr.JumpIfNot condition target) = branchList offsets condition target
+openList offsets float (Instr.Return op) = returnList offsets float op
+openList offsets float Instr.Comment = []
 
 -- .. with so many labels; empty for what is left to the list makers
-unfoldable pub quickList : List ℕ → ℕ → Instr → List Instruction
-quickList offsets labels i = cond (eqb (quickCount (length offsets) labels i) 0) [] (openList offsets i)
+unfoldable pub quickList : List ℕ → ℕ → Bool → Instr → List Instruction
+quickList offsets labels float i = cond (eqb (quickCount (length offsets) labels i) 0) [] (openList offsets float i)
 
 -- ---- records by their cells
 
@@ -207,6 +254,10 @@ unfoldable pub loadCells : ℕ → ℕ → ℕ → Size → Record
 loadCells reg tag value size =
     cond (isOneByte size) (cond (eqb tag 2) (cellsRecord 0 0 1 reg tag value 4 0) (cellsRecord 7 2 1 reg tag value 8 1))
     (cellsRecord 0 0 1 reg tag value (sizeCode size) 0)
+
+-- a value of a tag widened into RAX: one byte with zeros, else four with the sign
+unfoldable pub extendedCells : ℕ → ℕ → ℕ → Record
+extendedCells width tag value = cond (eqb width 1) (cellsRecord 7 2 1 0 tag value 8 1) (cellsRecord 7 1 1 0 tag value 8 4)
 
 -- both sides loaded, an operation of RAX and RCX by form and operation, and the store
 unfoldable pub pairRecords : List ℕ → VarId → IrOp → IrOp → ℕ → ℕ → List Record

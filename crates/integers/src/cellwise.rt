@@ -12,19 +12,23 @@ ghost use lib.Dec.{eqb};
 ghost use Prim.Native.Nat.{_+_, _≤_};
 ghost use lib.ListN.{getD};
 ghost use Rattle.cells.specs.Cells.{cells, minus};
-ghost use Rattle.ir.specs.Types.{elfSize, isUnsigned};
+ghost use Rattle.ir.specs.Types.{elfSize, isUnsigned, operandSize};
 ghost use Rattle.ir.specs.Function.{varAt, operandAt, unaryOp};
 ghost use Rattle.x86.specs.declared.enums.Operand.{Operand};
 ghost use Rattle.x86.specs.declared.enums.Instruction.{Instruction};
 ghost use Rattle.x86.specs.declared.enums.Size.{Size};
 ghost use Rattle.x86.specs.declared.enums.BinOp.{BinOp};
 ghost use Rattle.x86.specs.declared.enums.ShiftOp.{ShiftOp};
-ghost use Rattle.x86.specs.declared.enums.ExtendOp.{ExtendOp};
-ghost use Rattle.x86.specs.Registers.{gpr, RAX, RCX};
+ghost use Rattle.x86.specs.declared.enums.CtrlOp.{CtrlOp};
+ghost use Rattle.x86.specs.declared.enums.StackOp.{StackOp};
+ghost use Rattle.x86.specs.declared.enums.StringOp.{StringOp};
+ghost use Rattle.x86.specs.declared.enums.Prefix.{Prefix};
+ghost use Rattle.x86.specs.Registers.{gpr, xmm, RAX, RCX, RSP, RBP, RDI};
 ghost use Rattle.x86.specs.Records.{tagOf, valueOf, recordOf, cellsRecord, conditionCode, sizeCode, shiftCode};
 ghost use Rattle.x86.specs.Says.{recordSays};
+ghost use Rattle.codegen.specs.Instructions.{move};
 ghost use Rattle.codegen.specs.Arithmetic.{unsignedCode};
-ghost use Rattle.integers.specs.Integers.{operandOf, valueSize, valueUnsigned, load, store, loadCells, unaryRecord};
+ghost use Rattle.integers.specs.Integers.{operandOf, slotOf, valueSize, valueUnsigned, load, store, loadCells, unaryRecord, extended, extendedCells, clearOrSign, divideBy};
 
 // The pattern of minus a variable's offset.
 fn slot(offsets: &[u64], id: u64) -> u64
@@ -133,6 +137,14 @@ pub fn store(offsets: &[u64], s: &[u8], k: usize) -> Record
     requires { ⌜ k + 3 ≤ cells (now s) ⌝ }
     ensures { λ r. ⌜ recordSays r ≡ recordOf (store (now (offsets .entry)) (varAt (now (s .entry)) k) RAX) ⌝ }
 {
+    store_from(offsets, s, k, 0)
+}
+
+// A general register into the variable at cell `k`.
+pub fn store_from(offsets: &[u64], s: &[u8], k: usize, reg: u64) -> Record
+    requires { ⌜ k + 3 ≤ cells (now s) ⌝ }
+    ensures { λ r. ⌜ recordSays r ≡ recordOf (store (now (offsets .entry)) (varAt (now (s .entry)) k) (gpr reg)) ⌝ }
+{
     let size = size_at(s, k);
     Record {
         form: 0,
@@ -140,7 +152,7 @@ pub fn store(offsets: &[u64], s: &[u8], k: usize) -> Record
         dst_tag: 5,
         dst: slot(offsets, cell_at(s, k)),
         src_tag: 1,
-        src: 0,
+        src: reg,
         size: size.code(),
         src_size: 0,
     }
@@ -285,11 +297,165 @@ pub fn unary_record(op: u64, size: Size) -> Record
     }
 }
 
-// `movsxd rax, src`, of the operand at cell `k`.
-pub fn sign_extended(offsets: &[u64], s: &[u8], k: usize) -> Record
+// One byte widened with zeros into RAX, four with the sign, from an operand of a tag and a value.
+fn extended(width: u64, tag: u64, value: u64) -> Record
+    ensures { λ r. ⌜ recordSays r ≡ extendedCells width tag value ⌝ }
+{
+    if width == 1 {
+        return cells_record(7, 2, 0, tag, value, 8, 1);
+    }
+    cells_record(7, 1, 0, tag, value, 8, 4)
+}
+
+// The operand at cell `k`, of so many bytes, widened into RAX.
+pub fn widened(offsets: &[u64], s: &[u8], k: usize, width: u64) -> Record
     requires { ⌜ k + 4 ≤ cells (now s) ⌝ }
-    ensures { λ r. ⌜ recordSays r ≡ recordOf (Instruction.Extend ExtendOp.Movsxd RAX (operandOf (now (offsets .entry)) (operandAt (now (s .entry)) k)) Size.U32 Size.U64) ⌝ }
+    ensures { λ r. ⌜ recordSays r ≡ recordOf (extended width (operandOf (now (offsets .entry)) (operandAt (now (s .entry)) k))) ⌝ }
 {
     let tag = operand_tag(offsets, s, k);
-    cells_record(7, 1, 0, tag, operand_value(offsets, s, k), 8, 4)
+    extended(width, tag, operand_value(offsets, s, k))
+}
+
+// RAX, of so many bytes, widened.
+pub fn rax_widened(width: u64) -> Record
+    ensures { λ r. ⌜ recordSays r ≡ recordOf (extended width (Operand.Reg RAX)) ⌝ }
+{
+    extended(width, 1, 0)
+}
+
+// RDX cleared for an unsigned division, else RAX's sign extended into it.
+pub fn clear_or_sign(unsigned: bool, size: Size) -> Record
+    ensures { λ r. ⌜ recordSays r ≡ recordOf (clearOrSign unsigned size) ⌝ }
+{
+    let code = size.code();
+    if unsigned {
+        return cells_record(0, 8, 2, 1, 2, code, 0);
+    }
+    if code == 4 {
+        return no_operands(17, 5, code);
+    }
+    no_operands(17, 6, code)
+}
+
+// A record without operands.
+fn no_operands(form: u64, operation: u64, size: u64) -> Record
+    ensures { λ r. ⌜ recordSays r ≡ cellsRecord form operation 0 0 0 0 size 0 ⌝ }
+{
+    Record {
+        form,
+        operation,
+        dst_tag: 0,
+        dst: 0,
+        src_tag: 0,
+        src: 0,
+        size,
+        src_size: 0,
+    }
+}
+
+// `div rcx`, or `idiv rcx`
+pub fn divide_by(unsigned: bool, size: Size) -> Record
+    ensures { λ r. ⌜ recordSays r ≡ recordOf (divideBy unsigned size) ⌝ }
+{
+    let code = size.code();
+    if unsigned {
+        return by_rcx(3, code);
+    }
+    by_rcx(5, code)
+}
+
+fn by_rcx(operation: u64, size: u64) -> Record
+    ensures { λ r. ⌜ recordSays r ≡ cellsRecord 4 operation 0 0 1 1 size 0 ⌝ }
+{
+    Record {
+        form: 4,
+        operation,
+        dst_tag: 0,
+        dst: 0,
+        src_tag: 1,
+        src: 1,
+        size,
+        src_size: 0,
+    }
+}
+
+// Whether the variable at cell `k` is unsigned.
+pub fn is_unsigned_var(s: &[u8], k: usize) -> bool
+    requires { ⌜ k + 3 ≤ cells (now s) ⌝ }
+    ensures { λ r. ⌜ r ≡ isUnsigned (varAt (now (s .entry)) k .ty) ⌝ }
+{
+    let ty = type_at(s, k + 1);
+    ty.is_unsigned()
+}
+
+// `lea rdi, [dest]`, of the variable at cell `k`.
+pub fn lea_rdi(offsets: &[u64], s: &[u8], k: usize) -> Record
+    requires { ⌜ k + 3 ≤ cells (now s) ⌝ }
+    ensures { λ r. ⌜ recordSays r ≡ recordOf (Instruction.Lea (slotOf (now (offsets .entry)) (varAt (now (s .entry)) k)) RDI Size.NoSize) ⌝ }
+{
+    cells_record(8, 0, 7, 5, slot(offsets, cell_at(s, k)), 0, 0)
+}
+
+// A number of eight bytes into a general register.
+pub fn constant(reg: u64, n: u64) -> Record
+    ensures { λ r. ⌜ recordSays r ≡ recordOf (move (Operand.Reg (gpr reg)) (Operand.Imm n) Size.U64) ⌝ }
+{
+    cells_record(0, 0, reg, 2, n, 8, 0)
+}
+
+// `rep stosb`
+pub fn rep_stosb() -> Record
+    ensures { λ r. ⌜ recordSays r ≡ recordOf (Instruction.Prefix Prefix.Rep StringOp.Stos Size.U8) ⌝ }
+{
+    no_operands(11, 20, 1)
+}
+
+// The size of an operand where none is given: its own, and none for Null.
+fn operand_size(s: &[u8], k: usize) -> Size
+    requires { ⌜ k + 4 ≤ cells (now s) ⌝ }
+    ensures { λ r. ⌜ r ≡ operandSize (operandAt (now (s .entry)) k) ⌝ }
+{
+    match cell_at(s, k) {
+        0 => size_at(s, k + 1),
+        1 => constant_size(cell_at(s, k + 2)),
+        2 => Size::U64,
+        3 => Size::U8,
+        4 => Size::U64,
+        5 => Size::U64,
+        _ => Size::NoSize,
+    }
+}
+
+// The operand at cell `k` into RAX, or into XMM0.
+pub fn return_value(offsets: &[u64], s: &[u8], k: usize, float: bool) -> Record
+    requires { ⌜ k + 4 ≤ cells (now s) ⌝ }
+    ensures { λ r. ⌜ recordSays r ≡ recordOf (load (now (offsets .entry)) (cond float (xmm 0) RAX) (operandAt (now (s .entry)) k) (operandSize (operandAt (now (s .entry)) k))) ⌝ }
+{
+    let size = operand_size(s, k);
+    if float {
+        let tag = operand_tag(offsets, s, k);
+        return cells_record(0, 11, 16, tag, operand_value(offsets, s, k), size.code(), 0);
+    }
+    load(offsets, s, k, 0, size)
+}
+
+// `mov rsp, rbp`
+pub fn frame_left() -> Record
+    ensures { λ r. ⌜ recordSays r ≡ recordOf (move (Operand.Reg RSP) (Operand.Reg RBP) Size.NoSize) ⌝ }
+{
+    cells_record(0, 0, 4, 1, 5, 0, 0)
+}
+
+// `pop rbp`
+pub fn pop_rbp() -> Record
+    ensures { λ r. ⌜ recordSays r ≡ recordOf (Instruction.Stack StackOp.Pop (Operand.Reg RBP) Size.NoSize) ⌝ }
+{
+    cells_record(14, 1, 5, 0, 0, 0, 0)
+}
+
+// `ret`
+pub fn ret() -> Record
+    ensures { λ r. ⌜ recordSays r ≡ recordOf (Instruction.Ctrl CtrlOp.Ret Operand.NoOperand) ⌝ }
+{
+    no_operands(6, 2, 0)
 }

@@ -1,5 +1,5 @@
-// The short way for instructions on integer variables and constants, which are most of a rule: the number of their records, found on the sheet's cells
-// with no record made. Any other instruction is left to the list makers, and so is one that they refuse.
+// The short way for instructions on integer variables and constants, which are most of a rule: the number of their records, and the records, found on the
+// sheet's cells. Any other instruction is left to the list makers, and so is one that they refuse.
 mod cellwise;
 pub mod lists;
 
@@ -13,7 +13,7 @@ ghost use lib.ListN.{length};
 ghost use Rattle.cells.specs.Cells.{cells};
 ghost use Rattle.ir.specs.Types.{elementWidth};
 ghost use Rattle.ir.specs.Function.{varAt, operandAt, binaryAt, castAt, jumpIfNotAt, instrAt};
-ghost use Rattle.integers.specs.Integers.{isInteger, isIntegerVar, isIntegerOperand, binaryCount, quickCount, valueWidth, isQuickCast};
+ghost use Rattle.integers.specs.Integers.{isInteger, isIntegerVar, isIntegerOperand, binaryCount, quickCount, valueWidth, castCount};
 
 // Integers, Bool, Char, Byte and Address.
 fn is_integer(code: u64) -> bool
@@ -140,7 +140,7 @@ fn width(code: u64) -> u64
 }
 
 // .. and of the variable at cell `k`.
-pub fn var_width(s: &[u8], k: usize) -> u64
+fn var_width(s: &[u8], k: usize) -> u64
     requires { ⌜ k + 3 ≤ cells (now s) ⌝ }
     ensures { λ r. ⌜ r ≡ elementWidth (varAt (now (s .entry)) k .ty .code) ⌝ }
 {
@@ -148,7 +148,7 @@ pub fn var_width(s: &[u8], k: usize) -> u64
     width(ty.code)
 }
 
-pub fn value_width(s: &[u8], k: usize) -> u64
+fn value_width(s: &[u8], k: usize) -> u64
     requires { ⌜ k + 4 ≤ cells (now s) ⌝ }
     ensures { λ r. ⌜ r ≡ valueWidth (operandAt (now (s .entry)) k) ⌝ }
 {
@@ -166,16 +166,15 @@ fn short_width(short: u64) -> u64
     if short == 1 { 4 } else { 8 }
 }
 
-// A cast to no more bytes, or of a variable.
-fn is_quick_cast(s: &[u8], k: usize) -> bool
+// The records of a cast: two where it is to no more bytes, or of a variable, else three.
+fn cast_count(s: &[u8], k: usize) -> u64
     requires { ⌜ k + 13 ≤ cells (now s) ⌝ }
-    ensures { λ r. ⌜ r ≡ isQuickCast (varAt (now (s .entry)) (k + 2) .ty .code) (operandAt (now (s .entry)) (k + 5)) ⌝ }
+    ensures { λ r. ⌜ r ≡ castCount (varAt (now (s .entry)) (k + 2) .ty .code) (operandAt (now (s .entry)) (k + 5)) ⌝ }
 {
     if var_width(s, k + 2) <= value_width(s, k + 5) {
-        true
-    } else {
-        cell_at(s, k + 5) == 0
+        return 2;
     }
+    if cell_at(s, k + 5) == 0 { 2 } else { 3 }
 }
 
 fn count_cast(offsets: &[u64], s: &[u8], k: usize, labels: u64) -> u64
@@ -184,7 +183,7 @@ fn count_cast(offsets: &[u64], s: &[u8], k: usize, labels: u64) -> u64
 {
     let dest = is_integer_var(offsets, s, k + 2);
     let src = is_integer_operand(offsets, s, k + 5);
-    count_if(both(dest, both(src, is_quick_cast(s, k))), 2)
+    count_if(both(dest, src), cast_count(s, k))
 }
 
 // The number of records of the instruction at cell `k`; 0 where it is left to its list maker.
@@ -197,6 +196,7 @@ pub fn count_instr(offsets: &[u64], s: &[u8], k: usize, labels: u64) -> u64
         1 => count_moved(offsets, s, k, 3),
         2 => count_binary(offsets, s, k, labels),
         3 => count_cast(offsets, s, k, labels),
+        4 => count_if(is_integer_var(offsets, s, k + 2), 4),
         6 => count_if(cell_at(s, k + 1) < labels, 1),
         7 => count_if(cell_at(s, k + 1) < labels, 1),
         8 => count_branch(offsets, s, k, labels),

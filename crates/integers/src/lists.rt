@@ -1,16 +1,28 @@
 // The lists of instructions on integers, written from their cells into the lent slice.
+use crate::cellwise::clear_or_sign;
 use crate::cellwise::compare;
+use crate::cellwise::constant;
+use crate::cellwise::divide_by;
+use crate::cellwise::frame_left;
+use crate::cellwise::is_unsigned_var;
 use crate::cellwise::label_record;
+use crate::cellwise::lea_rdi;
 use crate::cellwise::load;
 use crate::cellwise::operation;
 use crate::cellwise::pair;
+use crate::cellwise::pop_rbp;
+use crate::cellwise::rax_widened;
+use crate::cellwise::rep_stosb;
+use crate::cellwise::ret;
+use crate::cellwise::return_value;
 use crate::cellwise::right_shift;
 use crate::cellwise::set;
-use crate::cellwise::sign_extended;
 use crate::cellwise::size_at;
 use crate::cellwise::store;
+use crate::cellwise::store_from;
 use crate::cellwise::unary_record;
 use crate::cellwise::value_size;
+use crate::cellwise::widened;
 use crate::cellwise::zero_test;
 use crate::count_instr;
 use crate::value_width;
@@ -23,7 +35,6 @@ use records::put_two;
 use x86::enums::BinOp;
 use x86::enums::ConditionCode;
 use x86::enums::Size;
-use x86::record::Record;
 use x86::record::put_record;
 ghost use mathlib.Core.Path.{_≡_};
 ghost use Prim.Native.Nat.{_+_, _≤_};
@@ -31,15 +42,9 @@ ghost use lib.ListN.{length};
 ghost use Rattle.cells.specs.Cells.{cells, cellAt, write};
 ghost use Rattle.ir.specs.Function.{varAt, operandAt, instrAt, unaryOp};
 ghost use Rattle.records.specs.Records.{bytesOfRecords};
-ghost use mathlib.Core.Bool.{cond};
-ghost use lib.Dec.{eqb};
-ghost use Rattle.x86.specs.declared.enums.Size.{Size};
-ghost use Rattle.x86.specs.declared.enums.ExtendOp.{ExtendOp};
-ghost use Rattle.x86.specs.declared.enums.Instruction.{Instruction};
-ghost use Rattle.x86.specs.Registers.{RAX};
-ghost use Rattle.x86.specs.Says.{recordSays};
-ghost use Rattle.x86.specs.Records.{recordOf, listBytes, recordBytes, cellsRecord};
-ghost use Rattle.integers.specs.Integers.{load, operandOf, castList, pairRecords, unaryList, copyList, simpleList, comparedList, branchList, binaryList, quickList};
+ghost use Rattle.x86.specs.Registers.{gpr};
+ghost use Rattle.x86.specs.Records.{listBytes, recordBytes, cellsRecord};
+ghost use Rattle.integers.specs.Integers.{castList, widenedList, constantList, divisionList, zeroList, returnList, pairRecords, unaryList, copyList, simpleList, comparedList, branchList, binaryList, quickList};
 
 fn put_copy(offsets: &[u64], s: &[u8], k: usize, out: &mut [u8], at: usize) -> u64
     requires { ⌜ k + 13 ≤ cells (now s) ⌝ }
@@ -139,34 +144,92 @@ fn put_unary(offsets: &[u64], s: &[u8], k: usize, out: &mut [u8], at: usize) -> 
     3
 }
 
-// The record that widens the operand at cell `k`.
-fn widened(offsets: &[u64], s: &[u8], k: usize, from: u64) -> Record
-    requires { ⌜ k + 4 ≤ cells (now s) ⌝ }
-    ensures { λ r. ⌜ recordSays r ≡ recordOf (cond (eqb from 1) (load (now (offsets .entry)) RAX (operandAt (now (s .entry)) k) Size.U8) (Instruction.Extend ExtendOp.Movsxd RAX (operandOf (now (offsets .entry)) (operandAt (now (s .entry)) k)) Size.U32 Size.U64)) ⌝ }
+// A variable is widened from its slot.
+fn put_widened(offsets: &[u64], s: &[u8], k: usize, out: &mut [u8], at: usize) -> u64
+    requires { ⌜ k + 13 ≤ cells (now s) ⌝ }
+    requires { ⌜ at + 128 ≤ length (now out) ⌝ }
+    ensures { λ r. ⌜ r ≡ 2 ⌝ }
+    ensures { λ r. ⌜ now (out .exit) ≡ write (now (out .entry)) at (listBytes (widenedList (now (offsets .entry)) (varAt (now (s .entry)) (k + 2)) (operandAt (now (s .entry)) (k + 5)))) ⌝ }
 {
-    if from == 1 {
-        return load(offsets, s, k, 0, Size::U8);
-    }
-    sign_extended(offsets, s, k)
+    let d = store(offsets, s, k + 2);
+    let a = widened(offsets, s, k + 5, value_width(s, k + 5));
+    put_two(out, at, a, d);
+    2
+}
+
+// A constant is widened in RAX.
+fn put_constant(offsets: &[u64], s: &[u8], k: usize, out: &mut [u8], at: usize) -> u64
+    requires { ⌜ k + 13 ≤ cells (now s) ⌝ }
+    requires { ⌜ at + 192 ≤ length (now out) ⌝ }
+    ensures { λ r. ⌜ r ≡ 3 ⌝ }
+    ensures { λ r. ⌜ now (out .exit) ≡ write (now (out .entry)) at (listBytes (constantList (now (offsets .entry)) (varAt (now (s .entry)) (k + 2)) (operandAt (now (s .entry)) (k + 5)))) ⌝ }
+{
+    let d = store(offsets, s, k + 2);
+    let a = load(offsets, s, k + 5, 0, value_size(s, k + 5));
+    let b = rax_widened(value_width(s, k + 5));
+    put_three(out, at, a, b, d);
+    3
 }
 
 // A cast, as a copy where the low bytes are enough.
 fn put_cast(offsets: &[u64], s: &[u8], k: usize, out: &mut [u8], at: usize) -> u64
     requires { ⌜ k + 13 ≤ cells (now s) ⌝ }
-    requires { ⌜ at + 128 ≤ length (now out) ⌝ }
-    ensures { λ r. ⌜ r ≡ 2 ⌝ }
+    requires { ⌜ at + 192 ≤ length (now out) ⌝ }
+    ensures { λ r. ⌜ r ≡ length (castList (now (offsets .entry)) (varAt (now (s .entry)) (k + 2)) (operandAt (now (s .entry)) (k + 5))) ⌝ }
     ensures { λ r. ⌜ now (out .exit) ≡ write (now (out .entry)) at (listBytes (castList (now (offsets .entry)) (varAt (now (s .entry)) (k + 2)) (operandAt (now (s .entry)) (k + 5)))) ⌝ }
 {
-    let from = value_width(s, k + 5);
-    if var_width(s, k + 2) <= from {
+    if var_width(s, k + 2) <= value_width(s, k + 5) {
         return put_copy(offsets, s, k, out, at);
     }
-    let d = store(offsets, s, k + 2);
-    put_two(out, at, widened(offsets, s, k + 5, from), d);
-    2
+    if cell_at(s, k + 5) == 0 {
+        return put_widened(offsets, s, k, out, at);
+    }
+    put_constant(offsets, s, k, out, at)
 }
 
-// A binary operation, by its number, but a division; room for five records is there.
+// `mov rax, left ; mov rcx, right`, RDX cleared or RAX's sign extended, the division, and its result stored from a register.
+fn put_division(offsets: &[u64], s: &[u8], k: usize, result: u64, out: &mut [u8], at: usize) -> u64
+    requires { ⌜ k + 13 ≤ cells (now s) ⌝ }
+    requires { ⌜ at + 320 ≤ length (now out) ⌝ }
+    ensures { λ r. ⌜ r ≡ 5 ⌝ }
+    ensures { λ r. ⌜ now (out .exit) ≡ write (now (out .entry)) at (listBytes (divisionList (now (offsets .entry)) (varAt (now (s .entry)) (k + 2)) (operandAt (now (s .entry)) (k + 5)) (operandAt (now (s .entry)) (k + 9)) (gpr result))) ⌝ }
+{
+    let d = store_from(offsets, s, k + 2, result);
+    let size = size_at(s, k + 2);
+    let a = load(offsets, s, k + 5, 0, size);
+    let b = load(offsets, s, k + 9, 1, size);
+    let unsigned = is_unsigned_var(s, k + 2);
+    let c = clear_or_sign(unsigned, size);
+    put_five(out, at, a, b, c, divide_by(unsigned, size), d);
+    5
+}
+
+// `lea rdi, [dest] ; mov rcx, width ; mov rax, 0 ; rep stosb`
+fn put_zero(offsets: &[u64], s: &[u8], k: usize, out: &mut [u8], at: usize) -> u64
+    requires { ⌜ k + 13 ≤ cells (now s) ⌝ }
+    requires { ⌜ at + 256 ≤ length (now out) ⌝ }
+    ensures { λ r. ⌜ r ≡ 4 ⌝ }
+    ensures { λ r. ⌜ now (out .exit) ≡ write (now (out .entry)) at (listBytes (zeroList (now (offsets .entry)) (varAt (now (s .entry)) (k + 2)))) ⌝ }
+{
+    let a = lea_rdi(offsets, s, k + 2);
+    let b = constant(1, var_width(s, k + 2));
+    put_four(out, at, a, b, constant(0, 0), rep_stosb());
+    4
+}
+
+// The value in RAX or XMM0, `mov rsp, rbp ; pop rbp ; ret`.
+fn put_return(offsets: &[u64], s: &[u8], k: usize, float: bool, out: &mut [u8], at: usize) -> u64
+    requires { ⌜ k + 13 ≤ cells (now s) ⌝ }
+    requires { ⌜ at + 256 ≤ length (now out) ⌝ }
+    ensures { λ r. ⌜ r ≡ 4 ⌝ }
+    ensures { λ r. ⌜ now (out .exit) ≡ write (now (out .entry)) at (listBytes (returnList (now (offsets .entry)) float (operandAt (now (s .entry)) (k + 5)))) ⌝ }
+{
+    let a = return_value(offsets, s, k + 5, float);
+    put_four(out, at, a, frame_left(), pop_rbp(), ret());
+    4
+}
+
+// A binary operation, by its number, none for the logical pair; room for five records is there.
 fn put_binary(offsets: &[u64], s: &[u8], k: usize, out: &mut [u8], at: usize) -> u64
     requires { ⌜ k + 13 ≤ cells (now s) ⌝ }
     requires { ⌜ at + 320 ≤ length (now out) ⌝ }
@@ -174,6 +237,8 @@ fn put_binary(offsets: &[u64], s: &[u8], k: usize, out: &mut [u8], at: usize) ->
     ensures { λ r. ⌜ now (out .exit) ≡ write (now (out .entry)) at (listBytes (binaryList (now (offsets .entry)) (varAt (now (s .entry)) (k + 2)) (cellAt (now (s .entry)) (k + 1)) (operandAt (now (s .entry)) (k + 5)) (operandAt (now (s .entry)) (k + 9)))) ⌝ }
 {
     match cell_at(s, k + 1) {
+        0 => 0,
+        1 => 0,
         2 => put_simple(offsets, s, k, BinOp::Or, out, at),
         3 => put_simple(offsets, s, k, BinOp::Xor, out, at),
         4 => put_simple(offsets, s, k, BinOp::And, out, at),
@@ -188,17 +253,25 @@ fn put_binary(offsets: &[u64], s: &[u8], k: usize, out: &mut [u8], at: usize) ->
         13 => put_simple(offsets, s, k, BinOp::Add, out, at),
         14 => put_simple(offsets, s, k, BinOp::Sub, out, at),
         15 => put_pair(offsets, s, k, 4, 4, out, at),
-        _ => 0,
+        16 => put_division(offsets, s, k, 0, out, at),
+        _ => put_division(offsets, s, k, 2, out, at),
     }
 }
 
-// The instruction at cell `k`, where it is one on integers of those above; room for five records is there. The number of its records, 0 where it is left
-// to its list maker.
-pub fn put_quick(offsets: &[u64], s: &[u8], k: usize, labels: u64, out: &mut [u8], at: usize) -> u64
+// The instruction at cell `k`, where it is one on integers; room for five records is there. The number of its records, 0 where it is left to its list maker.
+pub fn put_quick(
+    offsets: &[u64],
+    s: &[u8],
+    k: usize,
+    labels: u64,
+    float: bool,
+    out: &mut [u8],
+    at: usize,
+) -> u64
     requires { ⌜ k + 13 ≤ cells (now s) ⌝ }
     requires { ⌜ at + 320 ≤ length (now out) ⌝ }
-    ensures { λ r. ⌜ r ≡ length (quickList (now (offsets .entry)) labels (instrAt (now (s .entry)) k)) ⌝ }
-    ensures { λ r. ⌜ now (out .exit) ≡ write (now (out .entry)) at (listBytes (quickList (now (offsets .entry)) labels (instrAt (now (s .entry)) k))) ⌝ }
+    ensures { λ r. ⌜ r ≡ length (quickList (now (offsets .entry)) labels float (instrAt (now (s .entry)) k)) ⌝ }
+    ensures { λ r. ⌜ now (out .exit) ≡ write (now (out .entry)) at (listBytes (quickList (now (offsets .entry)) labels float (instrAt (now (s .entry)) k))) ⌝ }
 {
     let n = count_instr(offsets, s, k, labels);
     if n == 0 {
@@ -209,9 +282,11 @@ pub fn put_quick(offsets: &[u64], s: &[u8], k: usize, labels: u64, out: &mut [u8
         1 => put_unary(offsets, s, k, out, at),
         2 => put_binary(offsets, s, k, out, at),
         3 => put_cast(offsets, s, k, out, at),
+        4 => put_zero(offsets, s, k, out, at),
         6 => put_label(9, 0, cell_at(s, k + 1), out, at),
         7 => put_label(6, 0, cell_at(s, k + 1), out, at),
         8 => put_branch(offsets, s, k, cell_at(s, k + 1), out, at),
+        9 => put_return(offsets, s, k, float, out, at),
         _ => 0,
     }
 }

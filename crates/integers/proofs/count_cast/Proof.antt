@@ -15,21 +15,18 @@ add-is-integer-operand c = search needs
 is-integer-operand-requires : tie.Need-is-integer-operand-requires
 is-integer-operand-requires c κs = search needs
 
-is-quick-cast-requires : tie.Need-is-quick-cast-requires
-is-quick-cast-requires c κs = search needs
-
 both-requires : tie.Need-both-requires
 both-requires c κs = search needs
 
-both-requires-2 : tie.Need-both-requires-2
-both-requires-2 c κs = search needs
+cast-count-requires : tie.Need-cast-count-requires
+cast-count-requires c κs = search needs
 
 count-if-requires : tie.Need-count-if-requires
 count-if-requires c κs = search needs
 
 returns : tie.Need-returns
 unfolding quickCount
-returns c = simp (c .count-if .ensures, c .before .both2 .ensures, c .before .before .both .ensures, c .before .before .before .is-quick-cast .ensures, c .before .before .before .before .is-integer-operand .ensures, c .before .before .before .before .before .is-integer-var .ensures)
+returns c = simp (c .count-if .ensures, c .before .cast-count .ensures, c .before .before .both .ensures, c .before .before .before .is-integer-operand .ensures, c .before .before .before .before .is-integer-var .ensures)
 
 pub count-cast-spec : {M : Type 1} → statement M
-count-cast-spec = tie.close (tie.spec add-is-integer-var is-integer-var-requires add-is-integer-operand is-integer-operand-requires is-quick-cast-requires both-requires both-requires-2 count-if-requires returns)
+count-cast-spec = tie.close (tie.spec add-is-integer-var is-integer-var-requires add-is-integer-operand is-integer-operand-requires both-requires cast-count-requires count-if-requires returns)

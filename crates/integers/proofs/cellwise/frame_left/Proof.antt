@@ -1,0 +1,14 @@
+use Rattle.x86.specs.Records.{recordOf}
+use borrow.Author.Needs.{needs}
+use Rattle.integers.proofs.cellwise.frame_left.Statement.{statement}
+use Rattle.integers.proofs.cellwise.frame_left.Tie as tie
+
+cells-record-requires : tie.Need-cells-record-requires
+cells-record-requires c κs = search needs
+
+returns : tie.Need-returns
+unfolding recordOf
+returns c = simp (c .cells-record .ensures)
+
+pub frame-left-spec : {M : Type 1} → statement M
+frame-left-spec = tie.close (tie.spec cells-record-requires returns)

@@ -1,0 +1,35 @@
+use Rattle.x86.specs.Records.{listBytes, recordOf}
+use Rattle.records.specs.Records.{bytesOfRecords}
+use mathlib.Core.Path.{refl}
+use Rattle.integers.specs.Integers.{returnList}
+use borrow.Author.Needs.{needs}
+use Rattle.integers.proofs.lists.put_return.Statement.{statement}
+use Rattle.integers.proofs.lists.put_return.Tie as tie
+
+add-return-value : tie.Need-add-return-value
+add-return-value c = search needs
+
+return-value-requires : tie.Need-return-value-requires
+return-value-requires c κs = search needs
+
+frame-left-requires : tie.Need-frame-left-requires
+frame-left-requires c κs = search needs
+
+pop-rbp-requires : tie.Need-pop-rbp-requires
+pop-rbp-requires c κs = search needs
+
+ret-requires : tie.Need-ret-requires
+ret-requires c κs = search needs
+
+put-four-requires : tie.Need-put-four-requires
+put-four-requires c κs = c .before .before .before .before .before .before .before .before .pre .1
+
+same-length : tie.Need-same-length
+same-length c = search needs
+
+returns : tie.Need-returns
+unfolding returnList listBytes bytesOfRecords
+returns c = (refl, simp (c .before .before .put-four .ensures, c .before .before .before .ret .ensures, c .before .before .before .before .pop-rbp .ensures, c .before .before .before .before .before .frame-left .ensures, c .before .before .before .before .before .before .before .return-value .ensures))
+
+pub put-return-spec : {M : Type 1} → statement M
+put-return-spec = tie.close (tie.spec add-return-value return-value-requires frame-left-requires pop-rbp-requires ret-requires put-four-requires same-length returns)

@@ -1,0 +1,38 @@
+use Rattle.x86.specs.Records.{listBytes, recordOf}
+use Rattle.records.specs.Records.{bytesOfRecords}
+use mathlib.Core.Path.{refl}
+use Rattle.integers.specs.Integers.{widenedList}
+use borrow.Author.Needs.{needs}
+use Rattle.integers.proofs.lists.put_widened.Statement.{statement}
+use Rattle.integers.proofs.lists.put_widened.Tie as tie
+
+add-store : tie.Need-add-store
+add-store c = search needs
+
+store-requires : tie.Need-store-requires
+store-requires c κs = search needs
+
+add-widened : tie.Need-add-widened
+add-widened c = search needs
+
+add-value-width : tie.Need-add-value-width
+add-value-width c = search needs
+
+value-width-requires : tie.Need-value-width-requires
+value-width-requires c κs = search needs
+
+widened-requires : tie.Need-widened-requires
+widened-requires c κs = search needs
+
+put-two-requires : tie.Need-put-two-requires
+put-two-requires c κs = c .before .before .before .before .before .before .before .pre .1
+
+same-length : tie.Need-same-length
+same-length c = search needs
+
+returns : tie.Need-returns
+unfolding widenedList listBytes bytesOfRecords
+returns c = (refl, simp (c .before .before .put-two .ensures, c .before .before .before .before .widened .ensures, c .before .before .before .before .before .value-width .ensures, c .before .before .before .before .before .before .store .ensures))
+
+pub put-widened-spec : {M : Type 1} → statement M
+put-widened-spec = tie.close (tie.spec add-store store-requires add-widened add-value-width value-width-requires widened-requires put-two-requires same-length returns)

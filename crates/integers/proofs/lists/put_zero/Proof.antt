@@ -1,0 +1,41 @@
+use Rattle.x86.specs.Records.{listBytes, recordOf}
+use Rattle.records.specs.Records.{bytesOfRecords}
+use mathlib.Core.Path.{refl}
+use Rattle.integers.specs.Integers.{zeroList}
+use borrow.Author.Needs.{needs}
+use Rattle.integers.proofs.lists.put_zero.Statement.{statement}
+use Rattle.integers.proofs.lists.put_zero.Tie as tie
+
+add-lea-rdi : tie.Need-add-lea-rdi
+add-lea-rdi c = search needs
+
+lea-rdi-requires : tie.Need-lea-rdi-requires
+lea-rdi-requires c κs = search needs
+
+add-var-width : tie.Need-add-var-width
+add-var-width c = search needs
+
+var-width-requires : tie.Need-var-width-requires
+var-width-requires c κs = search needs
+
+constant-requires : tie.Need-constant-requires
+constant-requires c κs = search needs
+
+constant-requires-2 : tie.Need-constant-requires-2
+constant-requires-2 c κs = search needs
+
+rep-stosb-requires : tie.Need-rep-stosb-requires
+rep-stosb-requires c κs = search needs
+
+put-four-requires : tie.Need-put-four-requires
+put-four-requires c κs = c .before .before .before .before .before .before .before .before .before .pre .1
+
+same-length : tie.Need-same-length
+same-length c = search needs
+
+returns : tie.Need-returns
+unfolding zeroList listBytes bytesOfRecords
+returns c = (refl, simp (c .before .before .put-four .ensures, c .before .before .before .rep-stosb .ensures, c .before .before .before .before .constant2 .ensures, c .before .before .before .before .before .before .constant .ensures, c .before .before .before .before .before .before .before .var-width .ensures, c .before .before .before .before .before .before .before .before .lea-rdi .ensures))
+
+pub put-zero-spec : {M : Type 1} → statement M
+put-zero-spec = tie.close (tie.spec add-lea-rdi lea-rdi-requires add-var-width var-width-requires constant-requires constant-requires-2 rep-stosb-requires put-four-requires same-length returns)
