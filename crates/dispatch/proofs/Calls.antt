@@ -1,5 +1,5 @@
 -- A call and the cells behind it; any other instruction has no arguments.
-use Prim.Native.Nat.{ℕ, zero, suc, _+_, _*_, _≤_}
+use Prim.Native.Nat.{ℕ, zero, suc, _+_, _*_, _≤_, _<_}
 use mathlib.Core.Path.{_≡_, refl, sym, ap, subst, _∙_}
 use mathlib.Core.Bool.{cond}
 use mathlib.Core.List.{List, [], _∷_}
@@ -22,6 +22,7 @@ use Rattle.codegen.specs.Generation.{generateInstr}
 use Rattle.utils.specs.Answers.{counted, placed}
 use Rattle.utils.specs.Parts.{Put, PutAll}
 use Rattle.utils.proofs.Parts.{put-emitted}
+use Rattle.integers.proofs.Left.{none-written}
 use Rattle.records.specs.Records.{encoded, countedRecords, placedRecords}
 use Rattle.records.proofs.Written.{counted-encoded, placed-encoded}
 use Rattle.dispatch.specs.Dispatch.{withoutCall}
@@ -77,6 +78,10 @@ put-placed : (at : ℕ) (r : Result (List Instruction)) (s : List ℕ) → PutAl
 put-placed at (ok is) s = put-emitted at is s
 put-placed at (refused n) s = refl
 
+-- what no record leaves
+pub put-nothing : (at : ℕ) (s : List ℕ) → PutAll at (ok []) s s
+put-nothing at s = record { long = refl; bytes = λ h. none-written s at }
+
 -- what a maker's records leave
 pub put-all : (at : ℕ) (r q : Result (List Instruction)) (s : List ℕ) {c : Result ℕ} {u : List ℕ} → q ≡ r → c ≡ countedRecords (encoded q) → u ≡ placedRecords at (encoded q) s
     → (c ≡ counted r) × PutAll at r s u
@@ -88,6 +93,10 @@ put-all at r q s e f g =
 pub thirteen : (s : List ℕ) (k : ℕ) {n : ℕ} → behind s k ≤ n → k + 13 ≤ n
 unfolding behind
 thirteen s k h = omega arith
+
+pub first-cell : (s : List ℕ) (k : ℕ) {n : ℕ} → behind s k ≤ n → k < n
+unfolding behind
+first-cell s k h = omega arith
 
 pub inside : (s : List ℕ) (k : ℕ) {n count : ℕ} → argumentsAt s k ≡ count → behind s k ≤ n → k + 13 + 4 * count ≤ n
 unfolding behind

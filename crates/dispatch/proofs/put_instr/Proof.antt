@@ -21,12 +21,12 @@ count-instr-requires c κs = thirteen (c .before .before .before .before .before
 returns : tie.Need-returns
 returns c =
     let a = c .before .before .before .before .before .before .before .before .args in
-    let q = c .before .count-instr .ensures in
     let l = lent (a .tables .now) (a .offsets .now) in
     let s = a .sheet .now in
-    let x = generateInstr l (a .labels) (a .ret) (instrAt s (a .k)) (operandsAt s (argumentsAt s (a .k)) (a .k + 13)) in
-    only-counted (a .at) x (a .out .now) _ (sym (c .before .before .before .room .ensures) ∙ c .before .before .if1 .taken) (c .if2 .taken)
-    (quick-counted l (a .labels) (a .ret) (instrAt s (a .k)) _ (λ z. c .if2 .taken (q ∙ z)) ∙ ap ok (sym q))
+    let xs = operandsAt s (argumentsAt s (a .k)) (a .k + 13) in
+    let q = c .before .count-instr .ensures in
+    only-counted (a .at) (generateInstr l (a .labels) (a .ret) (instrAt s (a .k)) xs) (a .out .now) _ (sym (c .before .before .before .room .ensures) ∙ c .before .before .if1 .taken) (c .if2 .taken)
+    (quick-counted l (a .labels) (a .ret) xs (instrAt s (a .k)) (λ z. c .if2 .taken (q ∙ z)) ∙ ap ok (sym q))
 
 put-made-requires : tie.Need-put-made-requires
 put-made-requires c κs = c .before .before .before .before .before .before .before .before .before .pre
@@ -48,8 +48,7 @@ returns-3 c = c .before .before .put-made2 .ensures
 
 put-quickly-requires : tie.Need-put-quickly-requires
 put-quickly-requires c κs =
-    let p = c .before .before .before .before .before .before .before .before .pre in
-    (p .0, (p .1 .0, (p .1 .1, five-fit (length (c .before .before .before .before .before .before .before .before .args .out .now)) (c .before .before .before .before .before .before .before .before .args .at) (rw (← c .before .before .before .room .ensures) (c .before .if3 .left)))))
+    let p = c .before .before .before .before .before .before .before .before .pre in (p .0, (p .1 .0, (p .1 .1, five-fit (length (c .before .before .before .before .before .before .before .before .args .out .now)) (c .before .before .before .before .before .before .before .before .args .at) (rw (← c .before .before .before .room .ensures) (c .before .if3 .left)))))
 
 same-length-3 : tie.Need-same-length-3
 same-length-3 c = search needs
