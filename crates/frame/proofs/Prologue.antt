@@ -5,17 +5,29 @@ use mathlib.Core.Bool.{Bool, true, false}
 use mathlib.Core.List.{List, [], _∷_, _++_}
 use native.Mathlib.Omega.{arith}
 use lib.ListN.{length, length-append}
+use Rattle.cells.specs.Cells.{write}
 use Rattle.ir.specs.declared.VarId.{VarId}
 use Rattle.ir.specs.Types.{Result, ok, refused, _>>=_}
 use Rattle.x86.specs.declared.enums.Instruction.{Instruction}
+use Rattle.x86.specs.Records.{Record, recordOf, recordBytes}
 use Rattle.codegen.specs.Context.{Context}
 use Rattle.codegen.specs.Frame.{registersOf, storeParams, funcPrologue}
 use Rattle.codegen.proofs.Results.{Yields, yields, refuses, bind, never}
 use Rattle.utils.specs.Answers.{counted, emitted}
 use Rattle.utils.specs.Parts.{Put, PutAll}
+use Rattle.utils.proofs.Emitted.{Emitted, first, more}
 use Rattle.utils.proofs.Parts.{put-more, put-emitted, before}
 use Rattle.frame.specs.Stores.{entering, storeParam}
 use Rattle.frame.proofs.Stores.{turn, turn-few, registers-few}
+
+-- ---- a record by its cells
+
+pub first-cells : {s u : List ℕ} {at : ℕ} {r : Record} (i : Instruction) → u ≡ write s at (recordBytes r) → r ≡ recordOf i → Emitted s at (i ∷ []) 1 u
+first-cells {s} {u} {at} i e f = first i (e ∙ ap (λ (x : Record). write s at (recordBytes x)) f)
+
+pub more-cells : {s t u : List ℕ} {at n : ℕ} {is : List Instruction} {r : Record} (i : Instruction) → Emitted s at is n t → at + 64 * (n + 1) ≤ length s
+    → u ≡ write t (at + 64 * n) (recordBytes r) → r ≡ recordOf i → Emitted s at (is ++ i ∷ []) (n + 1) u
+more-cells {s} {t} {u} {at} {n} i g h e f = more i g h (e ∙ ap (λ (x : Record). write t (at + 64 * n) (recordBytes x)) f)
 
 -- ---- how many stores there are
 

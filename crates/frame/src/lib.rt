@@ -14,8 +14,9 @@ use x86::enums::BinOp;
 use x86::enums::Instruction;
 use x86::enums::Operand;
 use x86::enums::Size;
-use x86::enums::StackOp;
+use x86::record::Record;
 use x86::record::put_instruction;
+use x86::record::put_record;
 use x86::register::Register;
 ghost use mathlib.Core.Path.{_≡_};
 ghost use mathlib.Core.Bool.{true, cond};
@@ -25,7 +26,14 @@ ghost use Rattle.cells.specs.Cells.{cells, cellAt};
 ghost use Rattle.ir.specs.Types.{ok, refused, lastOffset};
 ghost use Rattle.ir.specs.Answers.{numberSays};
 ghost use Rattle.ir.specs.Function.{typesAt, varsAt, paramsFrom, bodyFrom};
-ghost use Rattle.x86.specs.Registers.{RAX};
+ghost use Rattle.x86.specs.declared.enums.Operand.{Operand};
+ghost use Rattle.x86.specs.declared.enums.Size.{Size};
+ghost use Rattle.x86.specs.declared.enums.BinOp.{BinOp};
+ghost use Rattle.x86.specs.declared.enums.StackOp.{StackOp};
+ghost use Rattle.x86.specs.declared.enums.Instruction.{Instruction};
+ghost use Rattle.x86.specs.Registers.{RAX, RSP, RBP};
+ghost use Rattle.x86.specs.Records.{recordOf};
+ghost use Rattle.x86.specs.Says.{recordSays};
 ghost use Rattle.codegen.specs.Frame.{offsetsFrom, haveWidths, registersOf, storeOf, storeParams, funcPrologue};
 ghost use Rattle.utils.specs.Answers.{lent, madeSays, counted, emitted, placed};
 ghost use Rattle.utils.specs.Parts.{PutAll};
@@ -195,42 +203,62 @@ fn store_params(
     Made::Records(k)
 }
 
+// `push rbp`
+fn push_rbp() -> Record
+    ensures { λ r. ⌜ recordSays r ≡ recordOf (Instruction.Stack StackOp.Push (Operand.Reg RBP) Size.NoSize) ⌝ }
+{
+    Record {
+        form: 14,
+        operation: 0,
+        dst_tag: 1,
+        dst: 5,
+        src_tag: 0,
+        src: 0,
+        size: 0,
+        src_size: 0,
+    }
+}
+
+// `mov rbp, rsp`
+fn frame_entered() -> Record
+    ensures { λ r. ⌜ recordSays r ≡ recordOf (Instruction.Binary BinOp.Mov (Operand.Reg RBP) (Operand.Reg RSP) Size.NoSize) ⌝ }
+{
+    Record {
+        form: 0,
+        operation: 0,
+        dst_tag: 1,
+        dst: 5,
+        src_tag: 1,
+        src: 4,
+        size: 0,
+        src_size: 0,
+    }
+}
+
+// `sub rsp, bytes`
+fn frame_taken(bytes: u64) -> Record
+    ensures { λ r. ⌜ recordSays r ≡ recordOf (Instruction.Binary BinOp.Sub (Operand.Reg RSP) (Operand.Imm bytes) Size.NoSize) ⌝ }
+{
+    Record {
+        form: 0,
+        operation: 3,
+        dst_tag: 1,
+        dst: 4,
+        src_tag: 2,
+        src: bytes,
+        size: 0,
+        src_size: 0,
+    }
+}
+
 // `push rbp ; mov rbp, rsp ; sub rsp, bytes`, at the start, if there is room.
 fn enter(bytes: u64, out: &mut [u8])
     ensures { λ _. ⌜ now (out .exit) ≡ emitted 0 (entering bytes) (now (out .entry)) ⌝ }
 {
     if 192 <= out.len() {
-        let rbp = Operand::Reg(Register::RBP);
-        let rsp = Operand::Reg(Register::RSP);
-        put_instruction(
-            out,
-            0,
-            Instruction::Stack {
-                op: StackOp::Push,
-                value: rbp,
-                size: Size::NoSize,
-            },
-        );
-        put_instruction(
-            out,
-            64,
-            Instruction::Binary {
-                op: BinOp::Mov,
-                dst: rbp,
-                src: rsp,
-                size: Size::NoSize,
-            },
-        );
-        put_instruction(
-            out,
-            128,
-            Instruction::Binary {
-                op: BinOp::Sub,
-                dst: rsp,
-                src: Operand::Imm(bytes),
-                size: Size::NoSize,
-            },
-        );
+        put_record(out, 0, push_rbp());
+        put_record(out, 64, frame_entered());
+        put_record(out, 128, frame_taken(bytes));
     }
 }
 

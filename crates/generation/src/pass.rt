@@ -5,20 +5,16 @@ use crate::body::body;
 use cells::cell_at;
 use frame::func_prologue;
 use frame::var_offsets;
+use integers::cellwise::frame_left;
+use integers::cellwise::pop_rbp;
+use integers::cellwise::ret;
 use ir::types::Number;
 use layout::Checked;
 use layout::sheet::sheet_check;
 use layout::tables::tables_check;
-use records::put_records;
-use records::three;
+use records::put_three;
 use utils::Made;
-use x86::enums::BinOp;
-use x86::enums::CtrlOp;
-use x86::enums::Instruction;
-use x86::enums::Operand;
-use x86::enums::Size;
-use x86::enums::StackOp;
-use x86::register::Register;
+use utils::room;
 ghost use mathlib.Core.Path.{_≡_};
 ghost use Prim.Native.Nat.{_+_, _*_, _≤_};
 ghost use lib.ListN.{length};
@@ -61,27 +57,13 @@ pub fn prepare(tables: &[u8], sheet: &[u8], offsets: &mut [u64; 256]) -> Ready
     frame_of(sheet, offsets)
 }
 
-// `mov rsp, rbp ; pop rbp ; ret`, from `at` on.
+// `mov rsp, rbp ; pop rbp ; ret`, from `at` on, if there is room.
 fn put_epilogue(out: &mut [u8], at: usize)
     ensures { λ _. ⌜ now (out .exit) ≡ emitted at funcEpilogue (now (out .entry)) ⌝ }
 {
-    let rbp = Operand::Reg(Register::RBP);
-    let back = Instruction::Binary {
-        op: BinOp::Mov,
-        dst: Operand::Reg(Register::RSP),
-        src: rbp,
-        size: Size::NoSize,
-    };
-    let pop = Instruction::Stack {
-        op: StackOp::Pop,
-        value: rbp,
-        size: Size::NoSize,
-    };
-    let ret = Instruction::Ctrl {
-        op: CtrlOp::Ret,
-        target: Operand::NoOperand,
-    };
-    put_records(out, at, three(back, pop, ret));
+    if 3 <= room(out.len(), at) {
+        put_three(out, at, frame_left(), pop_rbp(), ret());
+    }
 }
 
 // The epilogue behind the `made` records, unless the last of them is Ret; the number of records with it.

@@ -1,6 +1,6 @@
 // The short way for instructions on integer variables and constants, which are most of a rule: the number of their records, and the records, found on the
 // sheet's cells. Any other instruction is left to the list makers, and so is one that they refuse.
-mod cellwise;
+pub mod cellwise;
 pub mod lists;
 
 use cells::cell_at;
