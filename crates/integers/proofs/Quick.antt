@@ -33,18 +33,18 @@ use Rattle.layout.proofs.Passed.{apart}
 use Rattle.integers.specs.Integers.{isInteger, isIntegerVar, isIntegerOperand, binaryCount, quickCount, slotOf, operandOf, valueSize, valueUnsigned, copyList, simpleList, comparedList, shiftList, productList, unaryRecord, unaryList, branchList, binaryList, openList, quickList, valueWidth, isVar, castCount, castList, extended, widenedList, constantList, clearOrSign, divideBy, divisionList, zeroList, returnList}
 
 -- both of two tests
-first : (a b : Bool) → (a && b) ≡ true → a ≡ true
+pub first : (a b : Bool) → (a && b) ≡ true → a ≡ true
 first true b h = refl
 first false b h = apart (sym h)
 
-second : (a b : Bool) → (a && b) ≡ true → b ≡ true
+pub second : (a b : Bool) → (a && b) ≡ true → b ≡ true
 second true b h = h
 second false b h = apart (sym h)
 
 -- ---- variables
 
 -- the size of a move of an integer
-size-of-code : (code : ℕ) → isInteger code ≡ true → sizeFrom (elementWidth code) ≡ ok (cond (eqb (elementWidth code) 1) Size.U8 (cond (eqb (elementWidth code) 4) Size.U32 (cond (eqb (elementWidth code) 8) Size.U64 Size.NoSize)))
+pub size-of-code : (code : ℕ) → isInteger code ≡ true → sizeFrom (elementWidth code) ≡ ok (cond (eqb (elementWidth code) 1) Size.U8 (cond (eqb (elementWidth code) 4) Size.U32 (cond (eqb (elementWidth code) 8) Size.U64 Size.NoSize)))
 unfolding isInteger elementWidth sizeFrom
 size-of-code zero h = apart (sym h)
 size-of-code (suc zero) h = refl
@@ -59,7 +59,7 @@ size-of-code (suc (suc (suc (suc (suc (suc (suc (suc (suc zero))))))))) h = refl
 size-of-code (suc (suc (suc (suc (suc (suc (suc (suc (suc (suc zero)))))))))) h = refl
 size-of-code (suc (suc (suc (suc (suc (suc (suc (suc (suc (suc (suc n))))))))))) h = apart (sym h)
 
-has-width : (code : ℕ) → isInteger code ≡ true → eqb (elementWidth code) 0 ≡ false
+pub has-width : (code : ℕ) → isInteger code ≡ true → eqb (elementWidth code) 0 ≡ false
 unfolding isInteger elementWidth
 has-width zero h = apart (sym h)
 has-width (suc zero) h = refl
@@ -292,7 +292,7 @@ unary-made ctx d IrUnary.Not x hd hx = rw (sized _ d hd, loaded ctx RAX x (elfSi
 
 -- ---- casts
 
-width-known : (n : ℕ) (v : VarId) → isIntegerVar n v ≡ true → typeSize (v .ty) ≡ ok (elementWidth (v .ty .code))
+pub width-known : (n : ℕ) (v : VarId) → isIntegerVar n v ≡ true → typeSize (v .ty) ≡ ok (elementWidth (v .ty .code))
 unfolding isIntegerVar typeSize bytes
 width-known n v h =
     let t = second (ltb (v .id) n) _ h in
@@ -365,7 +365,7 @@ var-widened ctx d v (suc (suc (suc (suc (suc (suc (suc (suc (suc (suc (suc zero)
 var-widened ctx d v (suc (suc (suc (suc (suc (suc (suc (suc (suc (suc (suc (suc zero)))))))))))) dest h l hd = apart (sym h)
 var-widened ctx d v (suc (suc (suc (suc (suc (suc (suc (suc (suc (suc (suc (suc (suc n))))))))))))) dest h l hd = apart (sym h)
 
-code-of : (n : ℕ) (v : VarId) → isIntegerVar n v ≡ true → isInteger (v .ty .code) ≡ true
+pub code-of : (n : ℕ) (v : VarId) → isIntegerVar n v ≡ true → isInteger (v .ty .code) ≡ true
 unfolding isIntegerVar
 code-of n v h = second (isScalar (v .ty)) _ (second (ltb (v .id) n) _ h)
 
@@ -449,11 +449,11 @@ return-made ctx ret x hx = rw (loaded ctx (cond (isFloat ret) (xmm 0) RAX) x Siz
 -- ---- any of them
 
 -- where the count is not 0 its condition holds
-holds : (b : Bool) (n : ℕ) → (cond b n 0 ≡ 0 → ⊥) → b ≡ true
+pub holds : (b : Bool) (n : ℕ) → (cond b n 0 ≡ 0 → ⊥) → b ≡ true
 holds true n h = refl
 holds false n h = absurd (h refl)
 
-nonzero : (b : Bool) (n : ℕ) → (cond b n 0 ≡ 0 → ⊥) → n ≡ 0 → ⊥
+pub nonzero : (b : Bool) (n : ℕ) → (cond b n 0 ≡ 0 → ⊥) → n ≡ 0 → ⊥
 nonzero true n h = h
 nonzero false n h = absurd (h refl)
 

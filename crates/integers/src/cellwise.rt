@@ -31,7 +31,7 @@ ghost use Rattle.codegen.specs.Arithmetic.{unsignedCode};
 ghost use Rattle.integers.specs.Integers.{operandOf, slotOf, valueSize, valueUnsigned, load, store, loadCells, unaryRecord, extended, extendedCells, clearOrSign, divideBy};
 
 // The pattern of minus a variable's offset.
-fn slot(offsets: &[u64], id: u64) -> u64
+pub fn slot(offsets: &[u64], id: u64) -> u64
     ensures { λ r. ⌜ r ≡ minus (getD (now (offsets .entry)) id 0) ⌝ }
 {
     if id < offsets.len() as u64 {
@@ -100,7 +100,7 @@ fn load_cells(reg: u64, tag: u64, value: u64, size: Size) -> Record
     cells_record(0, 0, reg, tag, value, code, 0)
 }
 
-fn cells_record(
+pub fn cells_record(
     form: u64,
     operation: u64,
     reg: u64,

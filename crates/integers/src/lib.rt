@@ -33,7 +33,7 @@ fn is_integer(code: u64) -> bool
 }
 
 // Whether the variable at cell `k` is an integer, no array, and has a slot.
-fn is_integer_var(offsets: &[u64], s: &[u8], k: usize) -> bool
+pub fn is_integer_var(offsets: &[u64], s: &[u8], k: usize) -> bool
     requires { ⌜ k + 3 ≤ cells (now s) ⌝ }
     ensures { λ r. ⌜ r ≡ isIntegerVar (length (now (offsets .entry))) (varAt (now (s .entry)) k) ⌝ }
 {

@@ -46,7 +46,7 @@ ghost use Rattle.x86.specs.Registers.{gpr};
 ghost use Rattle.x86.specs.Records.{listBytes, recordBytes, cellsRecord};
 ghost use Rattle.integers.specs.Integers.{castList, widenedList, constantList, divisionList, zeroList, returnList, pairRecords, unaryList, copyList, simpleList, comparedList, branchList, binaryList, quickList};
 
-fn put_copy(offsets: &[u64], s: &[u8], k: usize, out: &mut [u8], at: usize) -> u64
+pub fn put_copy(offsets: &[u64], s: &[u8], k: usize, out: &mut [u8], at: usize) -> u64
     requires { ⌜ k + 13 ≤ cells (now s) ⌝ }
     requires { ⌜ at + 128 ≤ length (now out) ⌝ }
     ensures { λ r. ⌜ r ≡ 2 ⌝ }

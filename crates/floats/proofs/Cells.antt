@@ -1,0 +1,130 @@
+-- What the cells say of a variable, an operand and an instruction.
+use Prim.Native.Nat.{ℕ, zero, suc, _+_}
+use mathlib.Core.Path.{_≡_, refl, sym, ap, _∙_}
+use mathlib.Core.Bool.{Bool, true, false, cond}
+use mathlib.Core.List.{List, [], _∷_}
+use native.Mathlib.Omega.{arith}
+use lib.Dec.{ltb, eqb}
+use lib.ListN.{getD}
+use borrow.Author.Tests.{eqb-true, eqb-false}
+use Rattle.cells.specs.Cells.{cellAt}
+use Rattle.ir.specs.declared.VarId.{VarId}
+use Rattle.ir.specs.declared.Operand.{Operand as IrOp}
+use Rattle.ir.specs.declared.Instr.{Instr}
+use Rattle.ir.specs.Types.{noArray}
+use Rattle.ir.specs.Function.{varAt, varOperand, intOperand, floatOperand, boolOperand, addressOperand, dataOperand, operandAt}
+use Rattle.ir.specs.Function.{copyAt, unaryAt, binaryAt, castAt, zeroAt, callAt, labelAt, jumpAt, jumpIfNotAt, returnAt, instrAt}
+use Rattle.x86.specs.declared.enums.Instruction.{Instruction}
+use Rattle.floats.specs.Floats.{isFloatCode, isFloatVar, ofVar, operationCount, floatCount, floatOp, operationList, openFloats}
+
+-- ---- variables
+
+two : (k : ℕ) → k + 1 + 1 ≡ k + 2
+two k = omega arith
+
+pub scalar-var : (n : ℕ) (s : List ℕ) (k : ℕ) → ltb (cellAt s k) n ≡ true → eqb (cellAt s (k + 2)) noArray ≡ true → isFloatCode (cellAt s (k + 1)) ≡ isFloatVar n (varAt s k)
+unfolding isFloatVar
+scalar-var n s k h e = rw (h, two k, e)
+
+pub array-var : (n : ℕ) (s : List ℕ) (k : ℕ) → ltb (cellAt s k) n ≡ true → eqb (cellAt s (k + 2)) noArray ≡ false → false ≡ isFloatVar n (varAt s k)
+unfolding isFloatVar
+array-var n s k h e = rw (h, two k, e)
+
+pub no-slot : (n : ℕ) (s : List ℕ) (k : ℕ) → ltb (cellAt s k) n ≡ false → false ≡ isFloatVar n (varAt s k)
+unfolding isFloatVar
+no-slot n s k h = rw (h)
+
+-- ---- operands
+
+is-var : (s : List ℕ) (k : ℕ) → cellAt s k ≡ 0 → operandAt s k ≡ IrOp.Var (varAt s (k + 1))
+unfolding operandAt
+is-var s k e = rw (e)
+
+no-var : {A : Type 0} (z : A) (f : VarId → A) (s : List ℕ) (k : ℕ) → (cellAt s k ≡ 0 → ⊥) → ofVar z f (operandAt s k) ≡ z
+unfolding operandAt
+no-var z f s k = go (cellAt s k)
+  where
+    go : (c : ℕ) → (c ≡ 0 → ⊥) → ofVar z f (getD (varOperand ∷ intOperand ∷ floatOperand ∷ boolOperand ∷ addressOperand ∷ dataOperand ∷ []) c (λ s k. IrOp.Null) s k) ≡ z
+    go zero h = absurd (h refl)
+    go (suc zero) h = refl
+    go (suc (suc zero)) h = refl
+    go (suc (suc (suc zero))) h = refl
+    go (suc (suc (suc (suc zero)))) h = refl
+    go (suc (suc (suc (suc (suc zero))))) h = refl
+    go (suc (suc (suc (suc (suc (suc n)))))) h = refl
+
+-- what is not 0 of an operand is of a variable
+some-var : (f : VarId → ℕ) (s : List ℕ) (k : ℕ) → (ofVar 0 f (operandAt s k) ≡ 0 → ⊥) → cellAt s k ≡ 0
+some-var f s k h = go (eqb (cellAt s k) 0) refl
+  where
+    go : (b : Bool) → eqb (cellAt s k) 0 ≡ b → cellAt s k ≡ 0
+    go true e = eqb-true (cellAt s k) 0 e
+    go false e = absurd (h (no-var 0 f s k (eqb-false (cellAt s k) 0 e)))
+
+six : (k : ℕ) → k + 5 + 1 ≡ k + 6
+six k = omega arith
+
+ten : (k : ℕ) → k + 9 + 1 ≡ k + 10
+ten k = omega arith
+
+left-var : (s : List ℕ) (k : ℕ) → cellAt s (k + 5) ≡ 0 → operandAt s (k + 5) ≡ IrOp.Var (varAt s (k + 6))
+left-var s k e = is-var s (k + 5) e ∙ ap (λ n. IrOp.Var (varAt s n)) (six k)
+
+right-var : (s : List ℕ) (k : ℕ) → cellAt s (k + 9) ≡ 0 → operandAt s (k + 9) ≡ IrOp.Var (varAt s (k + 10))
+right-var s k e = is-var s (k + 9) e ∙ ap (λ n. IrOp.Var (varAt s n)) (ten k)
+
+-- ---- a binary operation
+
+abbrev counts : ℕ → List ℕ → ℕ → ℕ
+counts n s k = operationCount n (varAt s (k + 2)) (cellAt s (k + 1)) (varAt s (k + 6)) (varAt s (k + 10))
+
+abbrev lists : List ℕ → List ℕ → ℕ → List Instruction
+lists offsets s k = operationList offsets (varAt s (k + 2)) (floatOp (cellAt s (k + 1))) (varAt s (k + 6)) (varAt s (k + 10))
+
+pub of-two : (n : ℕ) (s : List ℕ) (k : ℕ) → cellAt s (k + 5) ≡ 0 → cellAt s (k + 9) ≡ 0 → counts n s k ≡ floatCount n (binaryAt s k)
+unfolding floatCount
+of-two n s k e f = rw (left-var s k e, right-var s k f)
+
+pub no-right : (n : ℕ) (s : List ℕ) (k : ℕ) → cellAt s (k + 5) ≡ 0 → (cellAt s (k + 9) ≡ 0 → ⊥) → 0 ≡ floatCount n (binaryAt s k)
+unfolding floatCount
+no-right n s k e f = rw (left-var s k e) (sym (no-var 0 _ s (k + 9) f))
+
+pub no-left : (n : ℕ) (s : List ℕ) (k : ℕ) → (cellAt s (k + 5) ≡ 0 → ⊥) → 0 ≡ floatCount n (binaryAt s k)
+unfolding floatCount
+no-left n s k e = sym (no-var 0 _ s (k + 5) e)
+
+both-vars : (n : ℕ) (s : List ℕ) (k : ℕ) → (floatCount n (binaryAt s k) ≡ 0 → ⊥) → (cellAt s (k + 5) ≡ 0) × (cellAt s (k + 9) ≡ 0)
+unfolding floatCount
+both-vars n s k h =
+    let a = some-var _ s (k + 5) h in
+    (a, some-var _ s (k + 9) (rw (left-var s k a) at h))
+
+pub operates : (n : ℕ) (s : List ℕ) (k : ℕ) → (floatCount n (binaryAt s k) ≡ 0 → ⊥) → counts n s k ≡ 0 → ⊥
+operates n s k h z =
+    let b = both-vars n s k h in
+    h (sym (of-two n s k (b .0) (b .1)) ∙ z)
+
+pub operation-open : (offsets : List ℕ) (n : ℕ) (s : List ℕ) (k : ℕ) → (floatCount n (binaryAt s k) ≡ 0 → ⊥) → openFloats offsets (binaryAt s k) ≡ lists offsets s k
+unfolding openFloats
+operation-open offsets n s k h =
+    let b = both-vars n s k h in
+    rw (left-var s k (b .0), right-var s k (b .1))
+
+-- ---- instructions
+
+pub no-count : (n : ℕ) (s : List ℕ) (k : ℕ) → (cellAt s k ≡ 2 → ⊥) → 0 ≡ floatCount n (instrAt s k)
+unfolding instrAt floatCount
+no-count n s k = go (cellAt s k)
+  where
+    go : (c : ℕ) → (c ≡ 2 → ⊥) → 0 ≡ floatCount n (getD (copyAt ∷ unaryAt ∷ binaryAt ∷ castAt ∷ zeroAt ∷ callAt ∷ labelAt ∷ jumpAt ∷ jumpIfNotAt ∷ returnAt ∷ []) c (λ s k. Instr.Comment) s k)
+    go zero h = refl
+    go (suc zero) h = refl
+    go (suc (suc zero)) h = absurd (h refl)
+    go (suc (suc (suc zero))) h = refl
+    go (suc (suc (suc (suc zero)))) h = refl
+    go (suc (suc (suc (suc (suc zero))))) h = refl
+    go (suc (suc (suc (suc (suc (suc zero)))))) h = refl
+    go (suc (suc (suc (suc (suc (suc (suc zero))))))) h = refl
+    go (suc (suc (suc (suc (suc (suc (suc (suc zero)))))))) h = refl
+    go (suc (suc (suc (suc (suc (suc (suc (suc (suc zero))))))))) h = refl
+    go (suc (suc (suc (suc (suc (suc (suc (suc (suc (suc n)))))))))) h = refl

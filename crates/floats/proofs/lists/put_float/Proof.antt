@@ -1,0 +1,49 @@
+use Prim.Native.Nat.{_+_}
+use mathlib.Core.Path.{_≡_, refl, sym, ap, _∙_}
+use native.Mathlib.Omega.{arith}
+use borrow.Author.Tests.{eq-eqb}
+use lib.ListN.{length}
+use Rattle.cells.specs.Cells.{cellAt, write}
+use Rattle.ir.specs.Function.{varAt, binaryAt, instrAt}
+use Rattle.x86.specs.Records.{listBytes}
+use Rattle.integers.proofs.Left.{none-written, is-2}
+use Rattle.floats.specs.Floats.{floatCount, floatList, openFloats}
+use Rattle.floats.proofs.Cells.{no-count, operates, operation-open}
+use Rattle.floats.proofs.Made.{an-operation, some, count-long}
+use borrow.Author.Needs.{needs}
+use Rattle.floats.proofs.lists.put_float.Statement.{statement}
+use Rattle.floats.proofs.lists.put_float.Tie as tie
+
+count-float-requires : tie.Need-count-float-requires
+count-float-requires c κs = search needs
+
+returns : tie.Need-returns
+unfolding floatList
+returns c = simp (← c .before .count-float .ensures, eq-eqb _ _ (c .if1 .taken)) (refl, none-written (c .before .before .before .before .before .args .out .now) (c .before .before .before .before .before .args .at))
+
+cell-at-requires : tie.Need-cell-at-requires
+cell-at-requires c κs = search needs
+
+put-operation-requires : tie.Need-put-operation-requires
+put-operation-requires c κs =
+    let a = c .before .before .before .before .before .before .before .before .args in
+    let i = is-2 (a .s .now) (a .k) (sym (c .before .before .cell-at .ensures) ∙ c .before .if2 .taken) in
+    let h : floatCount (length (a .offsets .now)) (binaryAt (a .s .now) (a .k)) ≡ 0 → ⊥ = λ z. c .before .before .before .if1 .left (c .before .before .before .before .count-float .ensures ∙ ap (floatCount (length (a .offsets .now))) i ∙ z) in
+    (c .before .before .before .before .before .before .before .before .pre .0, (an-operation (length (a .offsets .now)) (varAt (a .s .now) (a .k + 2)) (cellAt (a .s .now) (a .k + 1)) (varAt (a .s .now) (a .k + 6)) (varAt (a .s .now) (a .k + 10)) (operates (length (a .offsets .now)) (a .s .now) (a .k) h), omega (arith, c .before .before .before .before .before .before .before .before .pre .1)))
+
+same-length : tie.Need-same-length
+same-length c = search needs
+
+returns-2 : tie.Need-returns-2
+returns-2 c =
+    let a = c .before .before .before .before .before .before .before .before .before .before .before .args in
+    let i = is-2 (a .s .now) (a .k) (sym (c .before .before .before .before .before .cell-at .ensures) ∙ c .before .before .before .before .if2 .taken) in
+    let h : floatCount (length (a .offsets .now)) (instrAt (a .s .now) (a .k)) ≡ 0 → ⊥ = λ z. c .before .before .before .before .before .before .if1 .left (c .before .before .before .before .before .before .before .count-float .ensures ∙ z) in
+    let q : floatList (a .offsets .now) (instrAt (a .s .now) (a .k)) ≡ _ = some (a .offsets .now) (instrAt (a .s .now) (a .k)) h ∙ ap (openFloats (a .offsets .now)) i ∙ operation-open (a .offsets .now) (length (a .offsets .now)) (a .s .now) (a .k) (λ z. h (ap (floatCount (length (a .offsets .now))) i ∙ z)) in
+    (c .before .before .before .before .before .before .before .count-float .ensures ∙ count-long (a .offsets .now) (instrAt (a .s .now) (a .k)), c .before .before .put-operation .ensures ∙ ap (λ is. write (a .out .now) (a .at) (listBytes is)) (sym q))
+
+returns-3 : tie.Need-returns-3
+returns-3 c = absurd (c .before .before .if1 .left (c .before .before .before .count-float .ensures ∙ sym (no-count (length (c .before .before .before .before .before .before .before .args .offsets .now)) (c .before .before .before .before .before .before .before .args .s .now) (c .before .before .before .before .before .before .before .args .k) (λ e. c .if2 .left (c .before .cell-at .ensures ∙ e)))))
+
+pub put-float-spec : {M : Type 1} → statement M
+put-float-spec = tie.close (tie.spec count-float-requires returns cell-at-requires put-operation-requires same-length returns-2 returns-3)

@@ -1,0 +1,94 @@
+-- Instructions on float variables, which are never refused: the number of their records, and the records.
+use Prim.Native.Nat.{ℕ, _-_}
+use mathlib.Core.List.{List, [], _∷_}
+use mathlib.Core.Bool.{Bool, true, false, cond, _&&_, _||_}
+use lib.Dec.{eqb, ltb, leb}
+use lib.ListN.{getD, length}
+use Rattle.ir.specs.declared.VarId.{VarId}
+use Rattle.ir.specs.declared.Operand.{Operand as IrOp}
+use Rattle.ir.specs.declared.Instr.{Instr}
+use Rattle.ir.specs.Types.{isScalar}
+use Rattle.x86.specs.declared.enums.Size.{Size}
+use Rattle.x86.specs.declared.enums.Operand.{Operand}
+use Rattle.x86.specs.declared.enums.BinOp.{BinOp}
+use Rattle.x86.specs.declared.enums.Instruction.{Instruction}
+use Rattle.x86.specs.Registers.{xmm}
+use Rattle.integers.specs.Integers.{slotOf}
+
+-- the codes of the floats of eight and of four bytes (01, "Sheet and tables")
+unfoldable pub isFloatCode : ℕ → Bool
+isFloatCode code = eqb code 5 || eqb code 6
+
+-- a float that is no array, with a slot among n
+unfoldable pub isFloatVar : ℕ → VarId → Bool
+isFloatVar n v = ltb (v .id) n && (isScalar (v .ty) && isFloatCode (v .ty .code))
+
+-- + - * /, by their numbers
+unfoldable pub isOperation : ℕ → Bool
+isOperation op = leb 13 op && leb op 16
+
+-- what is said of a variable; z of any other operand
+abbrev pub ofVar : {A : Type 0} → A → (VarId → A) → IrOp → A
+ofVar z f (IrOp.Var v) = f v
+ofVar z f (IrOp.Int v short unsigned) = z
+ofVar z f (IrOp.Float k) = z
+ofVar z f (IrOp.Bool b) = z
+ofVar z f (IrOp.Address v) = z
+ofVar z f (IrOp.DataAddress k) = z
+ofVar z f IrOp.Null = z
+
+-- an operation on two variables of any type: they are taken as floats of dest's size
+unfoldable pub operationCount : ℕ → VarId → ℕ → VarId → VarId → ℕ
+operationCount n d op v w = cond (isFloatVar n d && (isOperation op && (ltb (v .id) n && ltb (w .id) n))) 3 0
+
+-- the number of records with n slots; 0 for what is left to the list makers
+unfoldable pub floatCount : ℕ → Instr → ℕ
+floatCount n (Instr.Copy dest src) = 0
+floatCount n (Instr.Unary dest op src) = 0
+floatCount n (Instr.Binary dest op left right) = ofVar 0 (λ v. ofVar 0 (operationCount n dest op v) right) left
+floatCount n (Instr.Cast dest src) = 0
+floatCount n (Instr.Zero dest) = 0
+floatCount n (Instr.Call dest symbol count) = 0
+floatCount n (Instr.Label l) = 0
+floatCount n (Instr.Jump l) = 0
+floatCount n (Instr.JumpIfNot condition target) = 0
+floatCount n (Instr.Return op) = 0
+floatCount n Instr.Comment = 0
+
+-- ---- their records, with the variables' offsets
+
+-- the size of a move of a float, by its code
+unfoldable pub floatSize : ℕ → Size
+floatSize code = cond (eqb code 5) Size.U64 Size.U32
+
+-- the operation on floats, by its number
+unfoldable pub floatOp : ℕ → BinOp
+floatOp op = getD (BinOp.AddF ∷ BinOp.SubF ∷ BinOp.MulF ∷ []) (op - 13) BinOp.DivF
+
+-- XMM0 into a float's slot
+abbrev pub storeFloat : List ℕ → VarId → Instruction
+storeFloat offsets d = Instruction.Binary BinOp.StoreF (slotOf offsets d) (Operand.Reg (xmm 0)) (floatSize (d .ty .code))
+
+-- `movsd xmm0, left ; op xmm0, right ; movsd [dest], xmm0`
+unfoldable pub operationList : List ℕ → VarId → BinOp → VarId → VarId → List Instruction
+operationList offsets d op v w =
+    Instruction.Binary BinOp.LoadF (Operand.Reg (xmm 0)) (slotOf offsets v) (floatSize (d .ty .code))
+    ∷ Instruction.Binary op (Operand.Reg (xmm 0)) (slotOf offsets w) (floatSize (d .ty .code)) ∷ storeFloat offsets d ∷ []
+
+-- the list with these offsets, of those that are written from their cells
+unfoldable pub openFloats : List ℕ → Instr → List Instruction
+openFloats offsets (Instr.Copy dest src) = []
+openFloats offsets (Instr.Unary dest op src) = []
+openFloats offsets (Instr.Binary dest op left right) = ofVar [] (λ v. ofVar [] (operationList offsets dest (floatOp op) v) right) left
+openFloats offsets (Instr.Cast dest src) = []
+openFloats offsets (Instr.Zero dest) = []
+openFloats offsets (Instr.Call dest symbol count) = []
+openFloats offsets (Instr.Label l) = []
+openFloats offsets (Instr.Jump l) = []
+openFloats offsets (Instr.JumpIfNot condition target) = []
+openFloats offsets (Instr.Return op) = []
+openFloats offsets Instr.Comment = []
+
+-- .. and none for what is left to the list makers
+unfoldable pub floatList : List ℕ → Instr → List Instruction
+floatList offsets i = cond (eqb (floatCount (length offsets) i) 0) [] (openFloats offsets i)
