@@ -15,7 +15,8 @@ use Rattle.ir.specs.Types.{noArray}
 use Rattle.ir.specs.Function.{varAt, varOperand, intOperand, floatOperand, boolOperand, addressOperand, dataOperand, operandAt}
 use Rattle.ir.specs.Function.{copyAt, unaryAt, binaryAt, castAt, zeroAt, callAt, labelAt, jumpAt, jumpIfNotAt, returnAt, instrAt}
 use Rattle.x86.specs.declared.enums.Instruction.{Instruction}
-use Rattle.floats.specs.Floats.{isFloatCode, isFloatVar, ofVar, operationCount, floatCount, floatOp, operationList, openFloats}
+use Rattle.integers.specs.Integers.{copyList}
+use Rattle.floats.specs.Floats.{isFloatCode, isFloatVar, ofVar, operationCount, copyCount, castCount, floatCount, floatOp, operationList, resizedList, toFloatList, fromFloatList, castFloats, openFloats}
 
 -- ---- variables
 
@@ -67,7 +68,7 @@ six k = omega arith
 ten : (k : ℕ) → k + 9 + 1 ≡ k + 10
 ten k = omega arith
 
-left-var : (s : List ℕ) (k : ℕ) → cellAt s (k + 5) ≡ 0 → operandAt s (k + 5) ≡ IrOp.Var (varAt s (k + 6))
+pub left-var : (s : List ℕ) (k : ℕ) → cellAt s (k + 5) ≡ 0 → operandAt s (k + 5) ≡ IrOp.Var (varAt s (k + 6))
 left-var s k e = is-var s (k + 5) e ∙ ap (λ n. IrOp.Var (varAt s n)) (six k)
 
 right-var : (s : List ℕ) (k : ℕ) → cellAt s (k + 9) ≡ 0 → operandAt s (k + 9) ≡ IrOp.Var (varAt s (k + 10))
@@ -110,21 +111,78 @@ operation-open offsets n s k h =
     let b = both-vars n s k h in
     rw (left-var s k (b .0), right-var s k (b .1))
 
+-- ---- a copy, and a cast
+
+pub copy-count : (n : ℕ) (s : List ℕ) (k : ℕ) → cellAt s (k + 5) ≡ 0 → copyCount n (varAt s (k + 2)) (varAt s (k + 6)) ≡ floatCount n (copyAt s k)
+unfolding floatCount
+copy-count n s k e = rw (left-var s k e)
+
+pub no-copy : (n : ℕ) (s : List ℕ) (k : ℕ) → (cellAt s (k + 5) ≡ 0 → ⊥) → 0 ≡ floatCount n (copyAt s k)
+unfolding floatCount
+no-copy n s k e = sym (no-var 0 _ s (k + 5) e)
+
+pub cast-count : (n : ℕ) (s : List ℕ) (k : ℕ) → cellAt s (k + 5) ≡ 0 → castCount n (varAt s (k + 2)) (varAt s (k + 6)) ≡ floatCount n (castAt s k)
+unfolding floatCount
+cast-count n s k e = rw (left-var s k e)
+
+pub no-cast : (n : ℕ) (s : List ℕ) (k : ℕ) → (cellAt s (k + 5) ≡ 0 → ⊥) → 0 ≡ floatCount n (castAt s k)
+unfolding floatCount
+no-cast n s k e = sym (no-var 0 _ s (k + 5) e)
+
+pub cast-var : (n : ℕ) (s : List ℕ) (k : ℕ) → (floatCount n (castAt s k) ≡ 0 → ⊥) → cellAt s (k + 5) ≡ 0
+unfolding floatCount
+cast-var n s k h = some-var _ s (k + 5) h
+
+pub cast-open : (offsets : List ℕ) (n : ℕ) (s : List ℕ) (k : ℕ) → (floatCount n (castAt s k) ≡ 0 → ⊥)
+    → openFloats offsets (castAt s k) ≡ castFloats offsets (varAt s (k + 2)) (varAt s (k + 6))
+unfolding openFloats
+cast-open offsets n s k h = rw (left-var s k (cast-var n s k h))
+
+pub copy-open : (offsets : List ℕ) (s : List ℕ) (k : ℕ) → openFloats offsets (copyAt s k) ≡ copyList offsets (varAt s (k + 2)) (operandAt s (k + 5))
+unfolding openFloats
+copy-open offsets s k = refl
+
+-- a cast's list, by the codes of dest and source
+module _ (offsets : List ℕ) (d v : VarId) where
+  pub copied : isFloatCode (d .ty .code) ≡ true → isFloatCode (v .ty .code) ≡ true → eqb (d .ty .code) (v .ty .code) ≡ true → castFloats offsets d v ≡ copyList offsets d (IrOp.Var v)
+  unfolding castFloats
+  copied a b c = rw (a, b, c)
+
+  pub resized : isFloatCode (d .ty .code) ≡ true → isFloatCode (v .ty .code) ≡ true → eqb (d .ty .code) (v .ty .code) ≡ false → castFloats offsets d v ≡ resizedList offsets d v
+  unfolding castFloats
+  resized a b c = rw (a, b, c)
+
+  pub to-float : isFloatCode (d .ty .code) ≡ true → isFloatCode (v .ty .code) ≡ false → castFloats offsets d v ≡ toFloatList offsets d v
+  unfolding castFloats
+  to-float a b = rw (a, b)
+
+  pub from-float : isFloatCode (d .ty .code) ≡ false → castFloats offsets d v ≡ fromFloatList offsets d v
+  unfolding castFloats
+  from-float a = rw (a)
+
 -- ---- instructions
 
-pub no-count : (n : ℕ) (s : List ℕ) (k : ℕ) → (cellAt s k ≡ 2 → ⊥) → 0 ≡ floatCount n (instrAt s k)
+pub no-count : (n : ℕ) (s : List ℕ) (k : ℕ) → (cellAt s k ≡ 0 → ⊥) → (cellAt s k ≡ 2 → ⊥) → (cellAt s k ≡ 3 → ⊥) → 0 ≡ floatCount n (instrAt s k)
 unfolding instrAt floatCount
 no-count n s k = go (cellAt s k)
   where
-    go : (c : ℕ) → (c ≡ 2 → ⊥) → 0 ≡ floatCount n (getD (copyAt ∷ unaryAt ∷ binaryAt ∷ castAt ∷ zeroAt ∷ callAt ∷ labelAt ∷ jumpAt ∷ jumpIfNotAt ∷ returnAt ∷ []) c (λ s k. Instr.Comment) s k)
-    go zero h = refl
-    go (suc zero) h = refl
-    go (suc (suc zero)) h = absurd (h refl)
-    go (suc (suc (suc zero))) h = refl
-    go (suc (suc (suc (suc zero)))) h = refl
-    go (suc (suc (suc (suc (suc zero))))) h = refl
-    go (suc (suc (suc (suc (suc (suc zero)))))) h = refl
-    go (suc (suc (suc (suc (suc (suc (suc zero))))))) h = refl
-    go (suc (suc (suc (suc (suc (suc (suc (suc zero)))))))) h = refl
-    go (suc (suc (suc (suc (suc (suc (suc (suc (suc zero))))))))) h = refl
-    go (suc (suc (suc (suc (suc (suc (suc (suc (suc (suc n)))))))))) h = refl
+    go : (c : ℕ) → (c ≡ 0 → ⊥) → (c ≡ 2 → ⊥) → (c ≡ 3 → ⊥) → 0 ≡ floatCount n (getD (copyAt ∷ unaryAt ∷ binaryAt ∷ castAt ∷ zeroAt ∷ callAt ∷ labelAt ∷ jumpAt ∷ jumpIfNotAt ∷ returnAt ∷ []) c (λ s k. Instr.Comment) s k)
+    go zero h0 h2 h3 = absurd (h0 refl)
+    go (suc zero) h0 h2 h3 = refl
+    go (suc (suc zero)) h0 h2 h3 = absurd (h2 refl)
+    go (suc (suc (suc zero))) h0 h2 h3 = absurd (h3 refl)
+    go (suc (suc (suc (suc zero)))) h0 h2 h3 = refl
+    go (suc (suc (suc (suc (suc zero))))) h0 h2 h3 = refl
+    go (suc (suc (suc (suc (suc (suc zero)))))) h0 h2 h3 = refl
+    go (suc (suc (suc (suc (suc (suc (suc zero))))))) h0 h2 h3 = refl
+    go (suc (suc (suc (suc (suc (suc (suc (suc zero)))))))) h0 h2 h3 = refl
+    go (suc (suc (suc (suc (suc (suc (suc (suc (suc zero))))))))) h0 h2 h3 = refl
+    go (suc (suc (suc (suc (suc (suc (suc (suc (suc (suc n)))))))))) h0 h2 h3 = refl
+
+-- what is counted and neither a binary operation nor a cast is a copy
+pub is-copy : (n : ℕ) (s : List ℕ) (k : ℕ) → (cellAt s k ≡ 2 → ⊥) → (cellAt s k ≡ 3 → ⊥) → (floatCount n (instrAt s k) ≡ 0 → ⊥) → cellAt s k ≡ 0
+is-copy n s k h2 h3 h = go (eqb (cellAt s k) 0) refl
+  where
+    go : (b : Bool) → eqb (cellAt s k) 0 ≡ b → cellAt s k ≡ 0
+    go true e = eqb-true (cellAt s k) 0 e
+    go false e = absurd (h (sym (no-count n s k (eqb-false (cellAt s k) 0 e) h2 h3)))

@@ -1,16 +1,17 @@
 -- The codes of floats and of their operations, one by one.
 use Prim.Native.Nat.{ℕ, zero, suc}
 use mathlib.Core.Path.{_≡_, refl, sym}
-use mathlib.Core.Bool.{Bool, true, false, cond}
+use mathlib.Core.Bool.{Bool, true, false, cond, _&&_, _||_}
 use native.Mathlib.Omega.{arith}
 use lib.Dec.{eqb, leb}
 use borrow.Author.Tests.{leb-true, ne-eqb}
-use Rattle.ir.specs.Types.{ok, elementWidth}
+use Rattle.ir.specs.Types.{ok, elementWidth, elementSize}
 use Rattle.ir.specs.Function.{binaryOp}
 use Rattle.ir.specs.declared.VarId.{VarId}
 use Rattle.ir.specs.declared.Operand.{Operand as IrOp}
 use Rattle.x86.specs.declared.enums.Size.{Size}
-use Rattle.x86.specs.Records.{binCode, sizeCode}
+use Rattle.x86.specs.declared.enums.ConvOp.{ConvOp}
+use Rattle.x86.specs.Records.{binCode, sizeCode, convCode}
 use Rattle.codegen.specs.Context.{Context}
 use Rattle.codegen.specs.Utils.{sizeFrom, sizeOr}
 use Rattle.codegen.specs.Arithmetic.{floatOperation, floatBinary}
@@ -43,6 +44,37 @@ pub size-is : {code : ℕ} → FloatCode code → sizeFrom (elementWidth code) �
 unfolding elementWidth sizeFrom floatSize
 size-is eight = refl
 size-is four = refl
+
+pub elf-is : {code : ℕ} → FloatCode code → elementSize (elementWidth code) ≡ floatSize code
+unfolding elementWidth floatSize
+elf-is eight = refl
+elf-is four = refl
+
+pub size-code : (code : ℕ) → cond (eqb code 5) 8 4 ≡ sizeCode (floatSize code)
+unfolding floatSize
+size-code code = go (eqb code 5)
+  where
+    go : (b : Bool) → cond b 8 4 ≡ sizeCode (cond b Size.U64 Size.U32)
+    go true = refl
+    go false = refl
+
+pub eight-bytes : {code : ℕ} → FloatCode code → eqb (elementWidth code) 8 ≡ eqb code 5
+unfolding elementWidth
+eight-bytes eight = refl
+eight-bytes four = refl
+
+-- a cast between floats is a copy where they have one code
+pub copies : {a b : ℕ} → FloatCode a → FloatCode b → ((true && (eqb (elementWidth b) (elementWidth a) || false)) && leb (elementWidth a) (elementWidth b)) ≡ eqb a b
+unfolding elementWidth
+copies eight eight = refl
+copies eight four = refl
+copies four eight = refl
+copies four four = refl
+
+-- the code of one of two conversions
+pub conv-code : (b : Bool) (x y : ConvOp) → cond b (convCode x) (convCode y) ≡ convCode (cond b x y)
+conv-code true x y = refl
+conv-code false x y = refl
 
 -- a float's size stands where it is given
 pub stands : (code : ℕ) (z : Size) → sizeOr (floatSize code) z ≡ floatSize code

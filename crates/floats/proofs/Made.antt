@@ -10,22 +10,28 @@ use Rattle.ir.specs.declared.«Type».{«Type» as IrType}
 use Rattle.ir.specs.declared.VarId.{VarId}
 use Rattle.ir.specs.declared.Operand.{Operand as IrOp}
 use Rattle.ir.specs.declared.Instr.{Instr}
-use Rattle.ir.specs.Types.{ok, isScalar, bytes, typeSize, isFloat, operandSize}
+use Rattle.ir.specs.Types.{ok, _>>=_, isScalar, elementWidth, bytes, typeSize, isFloat, elfSize, operandSize}
 use Rattle.ir.specs.Function.{binaryOp}
+use Rattle.x86.specs.declared.register.Register.{Register}
 use Rattle.x86.specs.declared.enums.Operand.{Operand}
 use Rattle.x86.specs.declared.enums.BinOp.{BinOp}
 use Rattle.x86.specs.declared.enums.Instruction.{Instruction}
-use Rattle.x86.specs.Registers.{xmm}
+use Rattle.x86.specs.declared.enums.Size.{Size}
+use Rattle.x86.specs.declared.enums.ConvOp.{ConvOp}
+use Rattle.x86.specs.Registers.{xmm, RAX}
 use Rattle.codegen.specs.Context.{Context, displacement}
-use Rattle.codegen.specs.Utils.{varSize, convertVar, convertOperand, sizeOr, loadFrom, loadValue, loadOperand}
+use Rattle.codegen.specs.Utils.{sizeFrom, varSize, convertVar, convertOperand, sizeOr, loadFrom, loadValue, loadOperand}
+use Rattle.codegen.specs.Instructions.{operandKind, source, castOperand, widened, castBetween, generateCopy, generateCast}
 use Rattle.codegen.specs.Arithmetic.{floatOperation, generateBinary}
 use Rattle.codegen.specs.Generation.{generateInstr}
 use Rattle.utils.specs.Answers.{counted}
 use Rattle.layout.proofs.Passed.{apart}
-use Rattle.integers.specs.Integers.{slotOf}
-use Rattle.integers.proofs.Quick.{first, second, holds, Some}
-use Rattle.floats.specs.Floats.{isFloatCode, isFloatVar, isOperation, ofVar, operationCount, floatCount, floatSize, floatOp, operationList, openFloats, floatList}
-use Rattle.floats.proofs.Codes.{code-is, has-width, size-is, stands, operation-is, op-done}
+use Rattle.integers.specs.Integers.{isIntegerVar, slotOf, operandOf, copyList}
+use Rattle.integers.proofs.Quick.{first, second, size-of-code, width-known, integral, holds, Some}
+use Rattle.integers.proofs.Quick.{sized as int-sized}
+use Rattle.floats.specs.Floats.{isFloatCode, isFloatVar, isOperation, ofVar, operationCount, copyCount, toFloatCount, castCount, floatCount, floatSize, floatOp, operationList, resizedList, toFloatList, fromFloatList, castFloats, openFloats, floatList}
+use Rattle.floats.proofs.Codes.{code-is, has-width, size-is, elf-is, eight-bytes, copies, stands, operation-is, op-done}
+use Rattle.floats.proofs.Cells.{copied, resized, to-float, from-float}
 
 -- ---- variables
 
@@ -39,10 +45,9 @@ placed : (ctx : Context) (v : VarId) → Slot ctx v → convertVar ctx v ≡ ok 
 unfolding convertVar displacement slotOf
 placed ctx v h = rw (h)
 
-loaded : (ctx : Context) (k : ℕ) (v : VarId) (code : ℕ) → Slot ctx v
-    → loadOperand ctx (xmm k) (IrOp.Var v) (floatSize code) ≡ ok (Instruction.Binary BinOp.LoadF (Operand.Reg (xmm k)) (slotOf (ctx .offsets) v) (floatSize code))
-unfolding loadOperand loadValue convertOperand loadFrom
-loaded ctx k v code h = rw (placed ctx v h, stands code (operandSize (IrOp.Var v)))
+loaded : (ctx : Context) (reg : Register) (v : VarId) (code : ℕ) → Slot ctx v → loadOperand ctx reg (IrOp.Var v) (floatSize code) ≡ ok (loadFrom reg (slotOf (ctx .offsets) v) (floatSize code))
+unfolding loadOperand loadValue convertOperand
+loaded ctx reg v code h = rw (placed ctx v h, stands code (operandSize (IrOp.Var v)))
 
 -- what is known of a float with a slot
 has-slot : (ctx : Context) (v : VarId) → Float ctx v → Slot ctx v
@@ -60,12 +65,46 @@ float : (ctx : Context) (v : VarId) → Float ctx v → isFloat (v .ty) ≡ true
 unfolding isFloatVar isFloat isFloatCode
 float ctx v h = second (ltb (v .id) (length (ctx .offsets))) _ h
 
+float-code : (n : ℕ) (v : VarId) → isFloatVar n v ≡ true → isFloatCode (v .ty .code) ≡ true
+unfolding isFloatVar
+float-code n v h = second (isScalar (v .ty)) _ (second (ltb (v .id) n) _ h)
+
+wide : (ctx : Context) (v : VarId) → Float ctx v → typeSize (v .ty) ≡ ok (elementWidth (v .ty .code))
+unfolding isFloatVar typeSize bytes
+wide ctx v h =
+    let t = second (ltb (v .id) (length (ctx .offsets))) _ h in
+    rw (has-width (code-is (v .ty .code) (second (isScalar (v .ty)) _ t)), first (isScalar (v .ty)) _ t)
+
+elf-sized : (ctx : Context) (v : VarId) → Float ctx v → elfSize (v .ty) ≡ floatSize (v .ty .code)
+unfolding isFloatVar elfSize
+elf-sized ctx v h =
+    let t = second (ltb (v .id) (length (ctx .offsets))) _ h in
+    rw (first (isScalar (v .ty)) _ t) (elf-is (code-is (v .ty .code) (second (isScalar (v .ty)) _ t)))
+
+-- .. and of an integer with a slot
+abbrev Integer : Context → VarId → Type 0
+Integer ctx v = isIntegerVar (length (ctx .offsets)) v ≡ true
+
+int-slot : (ctx : Context) (v : VarId) → Integer ctx v → Slot ctx v
+unfolding isIntegerVar
+int-slot ctx v h = first (ltb (v .id) (length (ctx .offsets))) _ h
+
+no-float-code : (n : ℕ) (v : VarId) → isIntegerVar n v ≡ true → isFloatCode (v .ty .code) ≡ false
+unfolding isIntegerVar isFloat isFloatCode
+no-float-code n v h = rw (first (isScalar (v .ty)) _ (second (ltb (v .id) n) _ h)) at (integral n v h)
+
+int-size : (ctx : Context) (v : VarId) → Integer ctx v → sizeFrom (elementWidth (v .ty .code)) ≡ ok (elfSize (v .ty))
+unfolding isIntegerVar elfSize
+int-size ctx v h =
+    let t = second (ltb (v .id) (length (ctx .offsets))) _ h in
+    rw (first (isScalar (v .ty)) _ t) (size-of-code (v .ty .code) (second (isScalar (v .ty)) _ t))
+
 -- ---- operations
 
 operated : (ctx : Context) (d : VarId) (op : BinOp) (v w : VarId) → Float ctx d → Slot ctx v → Slot ctx w
     → floatOperation ctx d (IrOp.Var v) (IrOp.Var w) op ≡ ok (operationList (ctx .offsets) d op v w)
-unfolding floatOperation operationList convertOperand
-operated ctx d op v w hd hv hw = rw (sized ctx d hd, loaded ctx 0 v (d .ty .code) hv, placed ctx w hw, placed ctx d (has-slot ctx d hd))
+unfolding floatOperation operationList convertOperand loadFrom
+operated ctx d op v w hd hv hw = rw (sized ctx d hd, loaded ctx (xmm 0) v (d .ty .code) hv, placed ctx w hw, placed ctx d (has-slot ctx d hd))
 
 -- what a count that is not 0 says
 module _ (n : ℕ) (d : VarId) (op : ℕ) (v w : VarId) (h : operationCount n d op v w ≡ 0 → ⊥) where
@@ -96,6 +135,109 @@ operation-long : (offsets : List ℕ) (d : VarId) (op : ℕ) (v w : VarId) → (
 unfolding operationList operationCount
 operation-long offsets d op v w h = rw (all (length offsets) d op v w h)
 
+-- ---- copies
+
+copy-made : (ctx : Context) (d v : VarId) → Float ctx d → Slot ctx v → generateCopy ctx d (IrOp.Var v) ≡ ok (copyList (ctx .offsets) d (IrOp.Var v))
+unfolding generateCopy copyList operandOf
+copy-made ctx d v hd hv = rw (placed ctx d (has-slot ctx d hd), sized ctx d hd, loaded ctx RAX v (d .ty .code) hv, elf-sized ctx d hd)
+
+copy-parts : (n : ℕ) (d v : VarId) → (copyCount n d v ≡ 0 → ⊥) → (isFloatVar n d && ltb (v .id) n) ≡ true
+unfolding copyCount
+copy-parts n d v h = holds (isFloatVar n d && ltb (v .id) n) 2 h
+
+copy-long : (offsets : List ℕ) (d v : VarId) → (copyCount (length offsets) d v ≡ 0 → ⊥) → copyCount (length offsets) d v ≡ length (copyList offsets d (IrOp.Var v))
+unfolding copyCount copyList
+copy-long offsets d v h = rw (copy-parts (length offsets) d v h)
+
+-- ---- casts
+
+-- between floats, of an integer to a float, and of a float to an integer
+data Casts (n : ℕ) (d v : VarId) : Type 0 where
+  between : isFloatVar n d ≡ true → isFloatVar n v ≡ true → Casts n d v
+  to : isFloatVar n d ≡ true → isFloatVar n v ≡ false → isIntegerVar n v ≡ true → Casts n d v
+  from : isFloatVar n d ≡ false → isFloatVar n v ≡ true → isIntegerVar n d ≡ true → Casts n d v
+
+casts-is : (n : ℕ) (d v : VarId) → (castCount n d v ≡ 0 → ⊥) → Casts n d v
+unfolding castCount toFloatCount
+casts-is n d v h = go (isFloatVar n d) (isFloatVar n v) refl refl
+  where
+    go : (a b : Bool) → isFloatVar n d ≡ a → isFloatVar n v ≡ b → Casts n d v
+    go true true e f = between e f
+    go true false e f = to e f (holds (isIntegerVar n v) _ (rw (e, f) at h))
+    go false true e f = from e f (holds (isIntegerVar n d) 2 (rw (e, f) at h))
+    go false false e f = absurd ((rw (e, f) at h) refl)
+
+between-made : (ctx : Context) (d v : VarId) → Float ctx d → Float ctx v → generateCast ctx d (IrOp.Var v) ≡ ok (castFloats (ctx .offsets) d v)
+unfolding generateCast operandKind castOperand castBetween resizedList
+between-made ctx d v hd hv =
+    let a = code-is (d .ty .code) (float-code (length (ctx .offsets)) d hd) in
+    let b = code-is (v .ty .code) (float-code (length (ctx .offsets)) v hv) in
+    rw (wide ctx v hv, wide ctx d hd, float ctx v hv, float ctx d hd, copies a b, placed ctx v (has-slot ctx v hv), placed ctx d (has-slot ctx d hd), sized ctx d hd, eight-bytes a, float ctx d hd)
+    (go (eqb (d .ty .code) (v .ty .code)) refl)
+  where
+    go : (t : Bool) → eqb (d .ty .code) (v .ty .code) ≡ t → cond (eqb (d .ty .code) (v .ty .code)) (generateCopy ctx d (IrOp.Var v)) (ok (resizedList (ctx .offsets) d v)) ≡ ok (castFloats (ctx .offsets) d v)
+    go true e = rw (e) (copy-made ctx d v hd (has-slot ctx v hv) ∙ ap ok (sym (copied (ctx .offsets) d v (float-code (length (ctx .offsets)) d hd) (float-code (length (ctx .offsets)) v hv) e)))
+    go false e = rw (e) (ap ok (sym (resized (ctx .offsets) d v (float-code (length (ctx .offsets)) d hd) (float-code (length (ctx .offsets)) v hv) e)))
+
+full : sizeFrom 8 ≡ ok Size.U64
+unfolding sizeFrom
+full = refl
+
+-- .. where the look-ups of dest and source are done
+to-converted : (ctx : Context) (d v : VarId) (t : Bool) → eqb (elementWidth (v .ty .code)) 1 ≡ t → Float ctx d → Integer ctx v
+    → castBetween ctx d (widened false (source [] (slotOf (ctx .offsets) v) (elementWidth (v .ty .code)))) false true (elementWidth (d .ty .code)) ≡ ok (toFloatList (ctx .offsets) d v)
+unfolding castBetween toFloatList
+to-converted ctx d v true e hd hv =
+    rw (e, full, placed ctx d (has-slot ctx d hd), sized ctx d hd, float ctx d hd, eight-bytes (code-is (d .ty .code) (float-code (length (ctx .offsets)) d hd)))
+to-converted ctx d v false e hd hv =
+    rw (e, int-size ctx v hv, placed ctx d (has-slot ctx d hd), sized ctx d hd, float ctx d hd, eight-bytes (code-is (d .ty .code) (float-code (length (ctx .offsets)) d hd)))
+
+to-made : (ctx : Context) (d v : VarId) → Float ctx d → Integer ctx v → generateCast ctx d (IrOp.Var v) ≡ ok (castFloats (ctx .offsets) d v)
+unfolding generateCast operandKind castOperand
+to-made ctx d v hd hv =
+    rw (width-known (length (ctx .offsets)) v hv, wide ctx d hd, integral (length (ctx .offsets)) v hv, float ctx d hd, placed ctx v (int-slot ctx v hv))
+    (to-converted ctx d v _ refl hd hv
+    ∙ ap ok (sym (to-float (ctx .offsets) d v (float-code (length (ctx .offsets)) d hd) (no-float-code (length (ctx .offsets)) v hv))))
+
+from-made : (ctx : Context) (d v : VarId) → Integer ctx d → Float ctx v → generateCast ctx d (IrOp.Var v) ≡ ok (castFloats (ctx .offsets) d v)
+unfolding generateCast operandKind castOperand castBetween fromFloatList
+from-made ctx d v hd hv =
+    rw (
+      wide ctx v hv,
+      width-known (length (ctx .offsets)) d hd,
+      float ctx v hv,
+      integral (length (ctx .offsets)) d hd,
+      placed ctx v (has-slot ctx v hv),
+      int-sized (length (ctx .offsets)) d hd,
+      placed ctx d (int-slot ctx d hd),
+      eight-bytes (code-is (v .ty .code) (float-code (length (ctx .offsets)) v hv)),
+      integral (length (ctx .offsets)) d hd,
+    )
+    (ap ok (sym (from-float (ctx .offsets) d v (no-float-code (length (ctx .offsets)) d hd))))
+
+cast-made : (ctx : Context) (d v : VarId) → Casts (length (ctx .offsets)) d v → generateCast ctx d (IrOp.Var v) ≡ ok (castFloats (ctx .offsets) d v)
+cast-made ctx d v (between hd hv) = between-made ctx d v hd hv
+cast-made ctx d v (to hd nv hv) = to-made ctx d v hd hv
+cast-made ctx d v (from nd hv hd) = from-made ctx d v hd hv
+
+to-long : (offsets : List ℕ) (d v : VarId) → isIntegerVar (length offsets) v ≡ true → toFloatCount (length offsets) v ≡ length (toFloatList offsets d v)
+unfolding toFloatCount toFloatList
+to-long offsets d v h = rw (h) (go (eqb (elementWidth (v .ty .code)) 1) _ _ refl refl)
+  where
+    go : (b : Bool) (is js : List Instruction) → 3 ≡ length is → 2 ≡ length js → cond b 3 2 ≡ length (cond b is js)
+    go true is js e f = e
+    go false is js e f = f
+
+cast-long : (offsets : List ℕ) (d v : VarId) → Casts (length offsets) d v → castCount (length offsets) d v ≡ length (castFloats offsets d v)
+unfolding castCount castFloats resizedList copyList fromFloatList
+cast-long offsets d v (between hd hv) = rw (hd, hv, float-code (length offsets) d hd, float-code (length offsets) v hv) (go (eqb (d .ty .code) (v .ty .code)) _ _ refl refl)
+  where
+    go : (b : Bool) (is js : List Instruction) → 2 ≡ length is → 2 ≡ length js → 2 ≡ length (cond b is js)
+    go true is js e f = e
+    go false is js e f = f
+cast-long offsets d v (to hd nv hv) = rw (hd, nv, float-code (length offsets) d hd, no-float-code (length offsets) v hv) (to-long offsets d v hv)
+cast-long offsets d v (from nd hv hd) = rw (nd, hv, hd, no-float-code (length offsets) d hd)
+
 -- ---- instructions
 
 data IsVar : IrOp → Type 0 where
@@ -113,6 +255,8 @@ var-is f IrOp.Null h = absurd (h refl)
 
 -- an instruction of which one is counted
 data Counted (n : ℕ) : Instr → Type 0 where
+  copy : (d v : VarId) → (copyCount n d v ≡ 0 → ⊥) → Counted n (Instr.Copy d (IrOp.Var v))
+  cast : (d v : VarId) → Casts n d v → Counted n (Instr.Cast d (IrOp.Var v))
   binary : (d : VarId) (op : ℕ) (v w : VarId) → (operationCount n d op v w ≡ 0 → ⊥) → Counted n (Instr.Binary d op (IrOp.Var v) (IrOp.Var w))
 
 binary-is : (n : ℕ) (d : VarId) (op : ℕ) {l : IrOp} (r : IrOp) → IsVar l → (floatCount n (Instr.Binary d op l r) ≡ 0 → ⊥) → Counted n (Instr.Binary d op l r)
@@ -122,12 +266,20 @@ binary-is n d op r (var v) h = go (var-is _ r h) h
     go : {r : IrOp} → IsVar r → (floatCount n (Instr.Binary d op (IrOp.Var v) r) ≡ 0 → ⊥) → Counted n (Instr.Binary d op (IrOp.Var v) r)
     go (var w) h = binary d op v w h
 
+copy-is : (n : ℕ) (d : VarId) {x : IrOp} → IsVar x → (floatCount n (Instr.Copy d x) ≡ 0 → ⊥) → Counted n (Instr.Copy d x)
+unfolding floatCount
+copy-is n d (var v) h = copy d v h
+
+cast-is : (n : ℕ) (d : VarId) {x : IrOp} → IsVar x → (floatCount n (Instr.Cast d x) ≡ 0 → ⊥) → Counted n (Instr.Cast d x)
+unfolding floatCount
+cast-is n d (var v) h = cast d v (casts-is n d v h)
+
 is-counted : (n : ℕ) (i : Instr) → (floatCount n i ≡ 0 → ⊥) → Counted n i
 unfolding floatCount
-is-counted n (Instr.Copy d x) h = absurd (h refl)
+is-counted n (Instr.Copy d x) h = copy-is n d (var-is _ x h) h
 is-counted n (Instr.Unary d op x) h = absurd (h refl)
 is-counted n (Instr.Binary d op l r) h = binary-is n d op r (var-is _ l h) h
-is-counted n (Instr.Cast d x) h = absurd (h refl)
+is-counted n (Instr.Cast d x) h = cast-is n d (var-is _ x h) h
 is-counted n (Instr.Zero d) h = absurd (h refl)
 is-counted n (Instr.Call d symbol count) h = absurd (h refl)
 is-counted n (Instr.Label l) h = absurd (h refl)
@@ -139,11 +291,17 @@ is-counted n Instr.Comment h = absurd (h refl)
 -- its records are the list maker's
 made : (ctx : Context) (labels : ℕ) (ret : IrType) {i : Instr} (args : List IrOp) → Counted (length (ctx .offsets)) i → generateInstr ctx labels ret i args ≡ ok (openFloats (ctx .offsets) i)
 unfolding generateInstr openFloats
+made ctx labels ret args (copy d v h) =
+    let p = copy-parts (length (ctx .offsets)) d v h in
+    copy-made ctx d v (first _ _ p) (second (isFloatVar (length (ctx .offsets)) d) _ p)
+made ctx labels ret args (cast d v c) = cast-made ctx d v c
 made ctx labels ret args (binary d op v w h) = operation-made ctx d op v w h
 
 -- .. and as many as are counted
 long : (offsets : List ℕ) {i : Instr} → Counted (length offsets) i → floatCount (length offsets) i ≡ length (openFloats offsets i)
 unfolding floatCount openFloats
+long offsets (copy d v h) = copy-long offsets d v h
+long offsets (cast d v c) = cast-long offsets d v c
 long offsets (binary d op v w h) = operation-long offsets d op v w h
 
 -- ---- the list, by whether it is counted

@@ -7,13 +7,15 @@ use lib.ListN.{getD, length}
 use Rattle.ir.specs.declared.VarId.{VarId}
 use Rattle.ir.specs.declared.Operand.{Operand as IrOp}
 use Rattle.ir.specs.declared.Instr.{Instr}
-use Rattle.ir.specs.Types.{isScalar}
+use Rattle.ir.specs.Types.{isScalar, elementWidth, elfSize}
 use Rattle.x86.specs.declared.enums.Size.{Size}
 use Rattle.x86.specs.declared.enums.Operand.{Operand}
 use Rattle.x86.specs.declared.enums.BinOp.{BinOp}
+use Rattle.x86.specs.declared.enums.ConvOp.{ConvOp}
+use Rattle.x86.specs.declared.enums.ExtendOp.{ExtendOp}
 use Rattle.x86.specs.declared.enums.Instruction.{Instruction}
-use Rattle.x86.specs.Registers.{xmm}
-use Rattle.integers.specs.Integers.{slotOf}
+use Rattle.x86.specs.Registers.{xmm, RAX}
+use Rattle.integers.specs.Integers.{isIntegerVar, slotOf, store, copyList}
 
 -- the codes of the floats of eight and of four bytes (01, "Sheet and tables")
 unfoldable pub isFloatCode : ℕ → Bool
@@ -41,12 +43,24 @@ ofVar z f IrOp.Null = z
 unfoldable pub operationCount : ℕ → VarId → ℕ → VarId → VarId → ℕ
 operationCount n d op v w = cond (isFloatVar n d && (isOperation op && (ltb (v .id) n && ltb (w .id) n))) 3 0
 
+-- a copy of a variable of any type: its bytes are moved, as many as dest has
+unfoldable pub copyCount : ℕ → VarId → VarId → ℕ
+copyCount n d v = cond (isFloatVar n d && ltb (v .id) n) 2 0
+
+-- a cast of an integer to a float: one byte is widened first
+unfoldable pub toFloatCount : ℕ → VarId → ℕ
+toFloatCount n v = cond (isIntegerVar n v) (cond (eqb (elementWidth (v .ty .code)) 1) 3 2) 0
+
+-- a cast between two variables, one of them or both floats
+unfoldable pub castCount : ℕ → VarId → VarId → ℕ
+castCount n d v = cond (isFloatVar n d) (cond (isFloatVar n v) 2 (toFloatCount n v)) (cond (isFloatVar n v && isIntegerVar n d) 2 0)
+
 -- the number of records with n slots; 0 for what is left to the list makers
 unfoldable pub floatCount : ℕ → Instr → ℕ
-floatCount n (Instr.Copy dest src) = 0
+floatCount n (Instr.Copy dest src) = ofVar 0 (copyCount n dest) src
 floatCount n (Instr.Unary dest op src) = 0
 floatCount n (Instr.Binary dest op left right) = ofVar 0 (λ v. ofVar 0 (operationCount n dest op v) right) left
-floatCount n (Instr.Cast dest src) = 0
+floatCount n (Instr.Cast dest src) = ofVar 0 (castCount n dest) src
 floatCount n (Instr.Zero dest) = 0
 floatCount n (Instr.Call dest symbol count) = 0
 floatCount n (Instr.Label l) = 0
@@ -75,12 +89,43 @@ operationList offsets d op v w =
     Instruction.Binary BinOp.LoadF (Operand.Reg (xmm 0)) (slotOf offsets v) (floatSize (d .ty .code))
     ∷ Instruction.Binary op (Operand.Reg (xmm 0)) (slotOf offsets w) (floatSize (d .ty .code)) ∷ storeFloat offsets d ∷ []
 
+-- a float of the other size
+unfoldable pub resizedList : List ℕ → VarId → VarId → List Instruction
+resizedList offsets d v =
+    Instruction.Convert (cond (eqb (d .ty .code) 5) ConvOp.Cvtss2sd ConvOp.Cvtsd2ss) (xmm 0) (slotOf offsets v) Size.NoSize ∷ storeFloat offsets d ∷ []
+
+-- an integer's value in a register or a slot as a float, and its store
+abbrev pub convertedList : List ℕ → VarId → Operand → Size → List Instruction
+convertedList offsets d x size =
+    Instruction.Convert (cond (eqb (d .ty .code) 5) ConvOp.Cvtsi2sd ConvOp.Cvtsi2ss) (xmm 0) x size ∷ storeFloat offsets d ∷ []
+
+-- an integer as a float: one byte by way of RAX
+unfoldable pub toFloatList : List ℕ → VarId → VarId → List Instruction
+toFloatList offsets d v =
+    cond (eqb (elementWidth (v .ty .code)) 1)
+    (Instruction.Extend ExtendOp.Movzx RAX (slotOf offsets v) Size.U8 Size.U64 ∷ convertedList offsets d (Operand.Reg RAX) Size.U64)
+    (convertedList offsets d (slotOf offsets v) (elfSize (v .ty)))
+
+-- a float as an integer
+unfoldable pub fromFloatList : List ℕ → VarId → VarId → List Instruction
+fromFloatList offsets d v =
+    Instruction.Convert (cond (eqb (v .ty .code) 5) ConvOp.Cvttsd2si ConvOp.Cvttss2si) RAX (slotOf offsets v) (elfSize (d .ty)) ∷ store offsets d RAX ∷ []
+
+-- a cast, by whether dest and source are floats; between floats of one size it is a copy
+unfoldable pub castFloats : List ℕ → VarId → VarId → List Instruction
+castFloats offsets d v =
+    cond (isFloatCode (d .ty .code))
+    (cond (isFloatCode (v .ty .code))
+    (cond (eqb (d .ty .code) (v .ty .code)) (copyList offsets d (IrOp.Var v)) (resizedList offsets d v))
+    (toFloatList offsets d v))
+    (fromFloatList offsets d v)
+
 -- the list with these offsets, of those that are written from their cells
 unfoldable pub openFloats : List ℕ → Instr → List Instruction
-openFloats offsets (Instr.Copy dest src) = []
+openFloats offsets (Instr.Copy dest src) = copyList offsets dest src
 openFloats offsets (Instr.Unary dest op src) = []
 openFloats offsets (Instr.Binary dest op left right) = ofVar [] (λ v. ofVar [] (operationList offsets dest (floatOp op) v) right) left
-openFloats offsets (Instr.Cast dest src) = []
+openFloats offsets (Instr.Cast dest src) = ofVar [] (castFloats offsets dest) src
 openFloats offsets (Instr.Zero dest) = []
 openFloats offsets (Instr.Call dest symbol count) = []
 openFloats offsets (Instr.Label l) = []

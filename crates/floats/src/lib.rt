@@ -3,15 +3,17 @@
 pub mod lists;
 
 use cells::cell_at;
+use integers::is_integer_var;
+use integers::var_width;
 ghost use mathlib.Core.Path.{_≡_};
 ghost use Prim.Native.Nat.{_+_, _≤_};
 ghost use lib.Dec.{ltb};
 ghost use lib.ListN.{length};
 ghost use Rattle.cells.specs.Cells.{cells, cellAt};
-ghost use Rattle.ir.specs.Function.{varAt, binaryAt, instrAt};
-ghost use Rattle.floats.specs.Floats.{isFloatCode, isFloatVar, isOperation, operationCount, floatCount};
+ghost use Rattle.ir.specs.Function.{varAt, copyAt, binaryAt, castAt, instrAt};
+ghost use Rattle.floats.specs.Floats.{isFloatCode, isFloatVar, isOperation, operationCount, toFloatCount, castCount, floatCount};
 
-fn is_float_code(code: u64) -> bool
+pub fn is_float_code(code: u64) -> bool
     ensures { λ r. ⌜ r ≡ isFloatCode code ⌝ }
 {
     if code == 5 { true } else { code == 6 }
@@ -73,13 +75,71 @@ fn count_binary(offsets: &[u64], s: &[u8], k: usize) -> u64
     0
 }
 
+fn count_copy(offsets: &[u64], s: &[u8], k: usize) -> u64
+    requires { ⌜ k + 13 ≤ cells (now s) ⌝ }
+    ensures { λ r. ⌜ r ≡ floatCount (length (now (offsets .entry))) (copyAt (now (s .entry)) k) ⌝ }
+{
+    if cell_at(s, k + 5) == 0 {
+        if is_float_var(offsets, s, k + 2) {
+            if has_slot(offsets, s, k + 6) {
+                return 2;
+            }
+        }
+    }
+    0
+}
+
+// The records of a cast of the integer at cell `k` to a float.
+fn to_float_count(offsets: &[u64], s: &[u8], k: usize) -> u64
+    requires { ⌜ k + 3 ≤ cells (now s) ⌝ }
+    ensures { λ r. ⌜ r ≡ toFloatCount (length (now (offsets .entry))) (varAt (now (s .entry)) k) ⌝ }
+{
+    if is_integer_var(offsets, s, k) {
+        if var_width(s, k) == 1 { 3 } else { 2 }
+    } else {
+        0
+    }
+}
+
+// The records of a cast between two variables.
+fn cast_count(offsets: &[u64], s: &[u8], k: usize) -> u64
+    requires { ⌜ k + 13 ≤ cells (now s) ⌝ }
+    ensures { λ r. ⌜ r ≡ castCount (length (now (offsets .entry))) (varAt (now (s .entry)) (k + 2)) (varAt (now (s .entry)) (k + 6)) ⌝ }
+{
+    let from = is_float_var(offsets, s, k + 6);
+    if is_float_var(offsets, s, k + 2) {
+        if from {
+            return 2;
+        }
+        return to_float_count(offsets, s, k + 6);
+    }
+    if from {
+        if is_integer_var(offsets, s, k + 2) {
+            return 2;
+        }
+    }
+    0
+}
+
+fn count_cast(offsets: &[u64], s: &[u8], k: usize) -> u64
+    requires { ⌜ k + 13 ≤ cells (now s) ⌝ }
+    ensures { λ r. ⌜ r ≡ floatCount (length (now (offsets .entry))) (castAt (now (s .entry)) k) ⌝ }
+{
+    if cell_at(s, k + 5) == 0 {
+        return cast_count(offsets, s, k);
+    }
+    0
+}
+
 // The number of records of the instruction at cell `k`; 0 where it is left to its list maker.
 pub fn count_float(offsets: &[u64], s: &[u8], k: usize) -> u64
     requires { ⌜ k + 13 ≤ cells (now s) ⌝ }
     ensures { λ r. ⌜ r ≡ floatCount (length (now (offsets .entry))) (instrAt (now (s .entry)) k) ⌝ }
 {
     match cell_at(s, k) {
+        0 => count_copy(offsets, s, k),
         2 => count_binary(offsets, s, k),
+        3 => count_cast(offsets, s, k),
         _ => 0,
     }
 }

@@ -1,34 +1,78 @@
 // The lists of instructions on floats, written from their cells into the lent slice.
 use crate::count_float;
+use crate::is_float_code;
 use cells::cell_at;
 use integers::cellwise::cells_record;
+use integers::cellwise::size_at;
 use integers::cellwise::slot;
+use integers::cellwise::store;
+use integers::lists::put_copy;
+use integers::var_width;
 use records::put_three;
+use records::put_two;
 use x86::record::Record;
 ghost use mathlib.Core.Path.{_≡_};
-ghost use mathlib.Core.Bool.{true};
+ghost use mathlib.Core.Bool.{true, cond};
 ghost use Prim.Native.Nat.{_+_, _≤_};
+ghost use lib.Dec.{eqb};
 ghost use lib.ListN.{length, getD};
 ghost use Rattle.cells.specs.Cells.{cells, cellAt, minus, write};
 ghost use Rattle.ir.specs.Function.{varAt, instrAt};
+ghost use Rattle.x86.specs.declared.enums.Size.{Size};
+ghost use Rattle.x86.specs.declared.enums.ExtendOp.{ExtendOp};
+ghost use Rattle.x86.specs.declared.enums.Instruction.{Instruction};
+ghost use Rattle.x86.specs.Registers.{RAX};
 ghost use Rattle.x86.specs.Says.{recordSays};
 ghost use Rattle.x86.specs.Records.{sizeCode, listBytes, cellsRecord, recordOf};
-ghost use Rattle.floats.specs.Floats.{isOperation, floatSize, floatOp, storeFloat, operationList, floatList};
+ghost use Rattle.integers.specs.Integers.{slotOf};
+ghost use Rattle.floats.specs.Floats.{isOperation, floatSize, floatOp, storeFloat, operationList, resizedList, toFloatList, fromFloatList, castFloats, floatList};
+
+// The type's code of the variable at cell `k`.
+fn code_at(s: &[u8], k: usize) -> u64
+    requires { ⌜ k + 3 ≤ cells (now s) ⌝ }
+    ensures { λ r. ⌜ r ≡ varAt (now (s .entry)) k .ty .code ⌝ }
+{
+    cell_at(s, k + 1)
+}
+
+// By the size of the float at cell `k`: eight bytes or four.
+fn by_size(s: &[u8], k: usize, eight: u64, four: u64) -> u64
+    requires { ⌜ k + 3 ≤ cells (now s) ⌝ }
+    ensures { λ r. ⌜ r ≡ cond (eqb (varAt (now (s .entry)) k .ty .code) 5) eight four ⌝ }
+{
+    if code_at(s, k) == 5 { eight } else { four }
+}
 
 // The bytes of the float at cell `k`.
 fn float_size(s: &[u8], k: usize) -> u64
     requires { ⌜ k + 3 ≤ cells (now s) ⌝ }
     ensures { λ r. ⌜ r ≡ sizeCode (floatSize (varAt (now (s .entry)) k .ty .code)) ⌝ }
 {
-    if cell_at(s, k + 1) == 5 { 8 } else { 4 }
+    by_size(s, k, 8, 4)
 }
 
-// An XMM register by its number, and the slot of the variable at cell `k`, by the operation's code.
-fn on_slot(offsets: &[u64], s: &[u8], k: usize, operation: u64, reg: u64, size: u64) -> Record
+// A register by its number, and the slot of the variable at cell `k`, by form and operation.
+fn on_slot(
+    offsets: &[u64],
+    s: &[u8],
+    k: usize,
+    form: u64,
+    operation: u64,
+    reg: u64,
+    size: u64,
+) -> Record
     requires { ⌜ k + 3 ≤ cells (now s) ⌝ }
-    ensures { λ r. ⌜ recordSays r ≡ cellsRecord 0 operation 1 reg 5 (minus (getD (now (offsets .entry)) (cellAt (now (s .entry)) k) 0)) size 0 ⌝ }
+    ensures { λ r. ⌜ recordSays r ≡ cellsRecord form operation 1 reg 5 (minus (getD (now (offsets .entry)) (cellAt (now (s .entry)) k) 0)) size 0 ⌝ }
 {
-    cells_record(0, operation, reg, 5, slot(offsets, cell_at(s, k)), size, 0)
+    cells_record(
+        form,
+        operation,
+        reg,
+        5,
+        slot(offsets, cell_at(s, k)),
+        size,
+        0,
+    )
 }
 
 // XMM0 into the float at cell `k`.
@@ -56,9 +100,92 @@ fn put_operation(offsets: &[u64], s: &[u8], k: usize, out: &mut [u8], at: usize)
     ensures { λ _. ⌜ now (out .exit) ≡ write (now (out .entry)) at (listBytes (operationList (now (offsets .entry)) (varAt (now (s .entry)) (k + 2)) (floatOp (cellAt (now (s .entry)) (k + 1))) (varAt (now (s .entry)) (k + 6)) (varAt (now (s .entry)) (k + 10)))) ⌝ }
 {
     let size = float_size(s, k + 2);
-    let a = on_slot(offsets, s, k + 6, 11, 16, size);
-    let b = on_slot(offsets, s, k + 10, cell_at(s, k + 1), 16, size);
+    let a = on_slot(offsets, s, k + 6, 0, 11, 16, size);
+    let b = on_slot(offsets, s, k + 10, 0, cell_at(s, k + 1), 16, size);
     put_three(out, at, a, b, store_float(offsets, s, k + 2));
+}
+
+// A float of the other size: `cvtss2sd xmm0, src ; movsd [dest], xmm0`, or the other way.
+fn put_resized(offsets: &[u64], s: &[u8], k: usize, out: &mut [u8], at: usize)
+    requires { ⌜ k + 13 ≤ cells (now s) ⌝ }
+    requires { ⌜ at + 128 ≤ length (now out) ⌝ }
+    ensures { λ _. ⌜ now (out .exit) ≡ write (now (out .entry)) at (listBytes (resizedList (now (offsets .entry)) (varAt (now (s .entry)) (k + 2)) (varAt (now (s .entry)) (k + 6)))) ⌝ }
+{
+    let a = on_slot(offsets, s, k + 6, 5, by_size(s, k + 2, 4, 1), 16, 0);
+    put_two(out, at, a, store_float(offsets, s, k + 2));
+}
+
+// `movzx rax, src`, of the byte at cell `k`.
+fn byte(offsets: &[u64], s: &[u8], k: usize) -> Record
+    requires { ⌜ k + 3 ≤ cells (now s) ⌝ }
+    ensures { λ r. ⌜ recordSays r ≡ recordOf (Instruction.Extend ExtendOp.Movzx RAX (slotOf (now (offsets .entry)) (varAt (now (s .entry)) k)) Size.U8 Size.U64) ⌝ }
+{
+    cells_record(7, 2, 0, 5, slot(offsets, cell_at(s, k)), 8, 1)
+}
+
+// An integer as a float: `cvtsi2sd xmm0, src ; movsd [dest], xmm0`, one byte by way of RAX.
+fn put_to_float(offsets: &[u64], s: &[u8], k: usize, out: &mut [u8], at: usize)
+    requires { ⌜ k + 13 ≤ cells (now s) ⌝ }
+    requires { ⌜ at + 192 ≤ length (now out) ⌝ }
+    ensures { λ _. ⌜ now (out .exit) ≡ write (now (out .entry)) at (listBytes (toFloatList (now (offsets .entry)) (varAt (now (s .entry)) (k + 2)) (varAt (now (s .entry)) (k + 6)))) ⌝ }
+{
+    let op = by_size(s, k + 2, 2, 3);
+    let d = store_float(offsets, s, k + 2);
+    if var_width(s, k + 6) == 1 {
+        let a = byte(offsets, s, k + 6);
+        put_three(out, at, a, cells_record(5, op, 16, 1, 0, 8, 0), d);
+    } else {
+        let size = size_at(s, k + 6);
+        put_two(
+            out,
+            at,
+            on_slot(offsets, s, k + 6, 5, op, 16, size.code()),
+            d,
+        );
+    }
+}
+
+// A float as an integer: `cvttsd2si rax, src ; mov [dest], rax`.
+fn put_from_float(offsets: &[u64], s: &[u8], k: usize, out: &mut [u8], at: usize)
+    requires { ⌜ k + 13 ≤ cells (now s) ⌝ }
+    requires { ⌜ at + 128 ≤ length (now out) ⌝ }
+    ensures { λ _. ⌜ now (out .exit) ≡ write (now (out .entry)) at (listBytes (fromFloatList (now (offsets .entry)) (varAt (now (s .entry)) (k + 2)) (varAt (now (s .entry)) (k + 6)))) ⌝ }
+{
+    let size = size_at(s, k + 2);
+    let a = on_slot(
+        offsets,
+        s,
+        k + 6,
+        5,
+        by_size(s, k + 6, 6, 7),
+        0,
+        size.code(),
+    );
+    put_two(out, at, a, store(offsets, s, k + 2));
+}
+
+// A cast of a variable.
+fn put_cast(offsets: &[u64], s: &[u8], k: usize, out: &mut [u8], at: usize)
+    requires { ⌜ k + 13 ≤ cells (now s) ⌝ }
+    requires { ⌜ cellAt (now s) (k + 5) ≡ 0 ⌝ }
+    requires { ⌜ at + 192 ≤ length (now out) ⌝ }
+    ensures { λ _. ⌜ now (out .exit) ≡ write (now (out .entry)) at (listBytes (castFloats (now (offsets .entry)) (varAt (now (s .entry)) (k + 2)) (varAt (now (s .entry)) (k + 6)))) ⌝ }
+{
+    let to = code_at(s, k + 2);
+    let from = code_at(s, k + 6);
+    if is_float_code(to) {
+        if is_float_code(from) {
+            if to == from {
+                put_copy(offsets, s, k, out, at);
+            } else {
+                put_resized(offsets, s, k, out, at);
+            }
+        } else {
+            put_to_float(offsets, s, k, out, at);
+        }
+    } else {
+        put_from_float(offsets, s, k, out, at);
+    }
 }
 
 // The instruction at cell `k`, where it is one on floats of those that are counted; room for five records is there. The number of its records, 0 where
@@ -73,8 +200,12 @@ pub fn put_float(offsets: &[u64], s: &[u8], k: usize, out: &mut [u8], at: usize)
     if n == 0 {
         return 0;
     }
-    if cell_at(s, k) == 2 {
-        put_operation(offsets, s, k, out, at);
+    match cell_at(s, k) {
+        2 => put_operation(offsets, s, k, out, at),
+        3 => put_cast(offsets, s, k, out, at),
+        _ => {
+            put_copy(offsets, s, k, out, at);
+        }
     }
     n
 }
