@@ -4,7 +4,7 @@ use mathlib.Core.Path.{_≡_, refl, sym, ap, _∙_}
 use mathlib.Core.Bool.{Bool, true, false, cond}
 use mathlib.Core.List.{List, [], _∷_}
 use native.Mathlib.Omega.{arith}
-use lib.Dec.{ltb, eqb}
+use lib.Dec.{ltb, leb, eqb}
 use lib.ListN.{getD}
 use borrow.Author.Tests.{eqb-true, eqb-false}
 use Rattle.cells.specs.Cells.{cellAt}
@@ -14,9 +14,11 @@ use Rattle.ir.specs.declared.Instr.{Instr}
 use Rattle.ir.specs.Types.{noArray}
 use Rattle.ir.specs.Function.{varAt, varOperand, intOperand, floatOperand, boolOperand, addressOperand, dataOperand, operandAt}
 use Rattle.ir.specs.Function.{copyAt, unaryAt, binaryAt, castAt, zeroAt, callAt, labelAt, jumpAt, jumpIfNotAt, returnAt, instrAt}
+use Rattle.x86.specs.declared.enums.BinOp.{BinOp}
+use Rattle.x86.specs.declared.enums.ConditionCode.{ConditionCode}
 use Rattle.x86.specs.declared.enums.Instruction.{Instruction}
 use Rattle.integers.specs.Integers.{copyList}
-use Rattle.floats.specs.Floats.{isFloatCode, isFloatVar, ofVar, operationCount, copyCount, castCount, floatCount, floatOp, operationList, resizedList, toFloatList, fromFloatList, castFloats, openFloats}
+use Rattle.floats.specs.Floats.{isFloatCode, isFloatVar, ofVar, operationCount, comparedCount, binaryCount, copyCount, castCount, floatCount, floatSize, floatOp, operationList, orderedList, equalList, comparedFloats, binaryFloats, resizedList, toFloatList, fromFloatList, castFloats, openFloats}
 
 -- ---- variables
 
@@ -77,10 +79,10 @@ right-var s k e = is-var s (k + 9) e ∙ ap (λ n. IrOp.Var (varAt s n)) (ten k)
 -- ---- a binary operation
 
 abbrev counts : ℕ → List ℕ → ℕ → ℕ
-counts n s k = operationCount n (varAt s (k + 2)) (cellAt s (k + 1)) (varAt s (k + 6)) (varAt s (k + 10))
+counts n s k = binaryCount n (varAt s (k + 2)) (cellAt s (k + 1)) (varAt s (k + 6)) (varAt s (k + 10))
 
 abbrev lists : List ℕ → List ℕ → ℕ → List Instruction
-lists offsets s k = operationList offsets (varAt s (k + 2)) (floatOp (cellAt s (k + 1))) (varAt s (k + 6)) (varAt s (k + 10))
+lists offsets s k = binaryFloats offsets (varAt s (k + 2)) (cellAt s (k + 1)) (varAt s (k + 6)) (varAt s (k + 10))
 
 pub of-two : (n : ℕ) (s : List ℕ) (k : ℕ) → cellAt s (k + 5) ≡ 0 → cellAt s (k + 9) ≡ 0 → counts n s k ≡ floatCount n (binaryAt s k)
 unfolding floatCount
@@ -100,16 +102,60 @@ both-vars n s k h =
     let a = some-var _ s (k + 5) h in
     (a, some-var _ s (k + 9) (rw (left-var s k a) at h))
 
-pub operates : (n : ℕ) (s : List ℕ) (k : ℕ) → (floatCount n (binaryAt s k) ≡ 0 → ⊥) → counts n s k ≡ 0 → ⊥
-operates n s k h z =
+pub binary-some : (n : ℕ) (s : List ℕ) (k : ℕ) → (floatCount n (binaryAt s k) ≡ 0 → ⊥) → counts n s k ≡ 0 → ⊥
+binary-some n s k h z =
     let b = both-vars n s k h in
     h (sym (of-two n s k (b .0) (b .1)) ∙ z)
 
-pub operation-open : (offsets : List ℕ) (n : ℕ) (s : List ℕ) (k : ℕ) → (floatCount n (binaryAt s k) ≡ 0 → ⊥) → openFloats offsets (binaryAt s k) ≡ lists offsets s k
+pub binary-open : (offsets : List ℕ) (n : ℕ) (s : List ℕ) (k : ℕ) → (floatCount n (binaryAt s k) ≡ 0 → ⊥) → openFloats offsets (binaryAt s k) ≡ lists offsets s k
 unfolding openFloats
-operation-open offsets n s k h =
+binary-open offsets n s k h =
     let b = both-vars n s k h in
     rw (left-var s k (b .0), right-var s k (b .1))
+
+-- .. an operation or a comparison, by its number
+module _ (d : VarId) (op : ℕ) (v w : VarId) where
+  pub as-operation : (n : ℕ) → leb 13 op ≡ true → (binaryCount n d op v w ≡ 0 → ⊥) → operationCount n d op v w ≡ 0 → ⊥
+  unfolding binaryCount
+  as-operation n e h = rw (e) at h
+
+  pub as-comparison : (n : ℕ) → leb 13 op ≡ false → (binaryCount n d op v w ≡ 0 → ⊥) → comparedCount n d op v w ≡ 0 → ⊥
+  unfolding binaryCount
+  as-comparison n e h = rw (e) at h
+
+  pub operation-floats : (offsets : List ℕ) → leb 13 op ≡ true → binaryFloats offsets d op v w ≡ operationList offsets d (floatOp op) v w
+  unfolding binaryFloats
+  operation-floats offsets e = rw (e)
+
+  pub comparison-floats : (offsets : List ℕ) → leb 13 op ≡ false → binaryFloats offsets d op v w ≡ comparedFloats offsets d op v w
+  unfolding binaryFloats
+  comparison-floats offsets e = rw (e)
+
+-- .. and each comparison
+module _ (offsets : List ℕ) (d : VarId) (op : ℕ) (v w : VarId) where
+  pub is-eq : op ≡ 5 → comparedFloats offsets d op v w ≡ equalList offsets d (floatSize (v .ty .code)) v w ConditionCode.E ConditionCode.NP BinOp.And
+  unfolding comparedFloats
+  is-eq e = rw (e)
+
+  pub is-ne : op ≡ 6 → comparedFloats offsets d op v w ≡ equalList offsets d (floatSize (v .ty .code)) v w ConditionCode.NE ConditionCode.P BinOp.Or
+  unfolding comparedFloats
+  is-ne e = rw (e)
+
+  pub is-lt : op ≡ 7 → comparedFloats offsets d op v w ≡ orderedList offsets d (floatSize (v .ty .code)) w v ConditionCode.A
+  unfolding comparedFloats
+  is-lt e = rw (e)
+
+  pub is-le : op ≡ 8 → comparedFloats offsets d op v w ≡ orderedList offsets d (floatSize (v .ty .code)) w v ConditionCode.AE
+  unfolding comparedFloats
+  is-le e = rw (e)
+
+  pub is-gt : op ≡ 9 → comparedFloats offsets d op v w ≡ orderedList offsets d (floatSize (v .ty .code)) v w ConditionCode.A
+  unfolding comparedFloats
+  is-gt e = rw (e)
+
+  pub is-ge : op ≡ 10 → comparedFloats offsets d op v w ≡ orderedList offsets d (floatSize (v .ty .code)) v w ConditionCode.AE
+  unfolding comparedFloats
+  is-ge e = rw (e)
 
 -- ---- a copy, and a cast
 

@@ -17,7 +17,7 @@ use Rattle.codegen.specs.Utils.{sizeFrom, sizeOr}
 use Rattle.codegen.specs.Arithmetic.{floatOperation, floatBinary}
 use Rattle.layout.proofs.Passed.{apart}
 use Rattle.integers.proofs.Quick.{first, second}
-use Rattle.floats.specs.Floats.{isFloatCode, isOperation, floatSize, floatOp}
+use Rattle.floats.specs.Floats.{isFloatCode, isOperation, isComparison, floatSize, floatOp}
 
 -- of eight bytes, and of four
 pub data FloatCode : ℕ → Type 0 where
@@ -127,3 +127,35 @@ op-done ctx d l r add = refl
 op-done ctx d l r sub = refl
 op-done ctx d l r mul = refl
 op-done ctx d l r div = refl
+
+-- == != < <= > >=
+pub data Comparison : ℕ → Type 0 where
+  eq : Comparison 5
+  ne : Comparison 6
+  lt : Comparison 7
+  le : Comparison 8
+  gt : Comparison 9
+  ge : Comparison 10
+
+pub comparison-is : (op : ℕ) → isComparison op ≡ true → Comparison op
+unfolding isComparison
+comparison-is zero h = apart (sym h)
+comparison-is (suc zero) h = apart (sym h)
+comparison-is (suc (suc zero)) h = apart (sym h)
+comparison-is (suc (suc (suc zero))) h = apart (sym h)
+comparison-is (suc (suc (suc (suc zero)))) h = apart (sym h)
+comparison-is (suc (suc (suc (suc (suc zero))))) h = eq
+comparison-is (suc (suc (suc (suc (suc (suc zero)))))) h = ne
+comparison-is (suc (suc (suc (suc (suc (suc (suc zero))))))) h = lt
+comparison-is (suc (suc (suc (suc (suc (suc (suc (suc zero)))))))) h = le
+comparison-is (suc (suc (suc (suc (suc (suc (suc (suc (suc zero))))))))) h = gt
+comparison-is (suc (suc (suc (suc (suc (suc (suc (suc (suc (suc zero)))))))))) h = ge
+comparison-is (suc (suc (suc (suc (suc (suc (suc (suc (suc (suc (suc n))))))))))) h = absurd (omega (arith, leb-true (suc (suc (suc (suc (suc (suc (suc (suc (suc (suc (suc n))))))))))) 10 (second (leb 5 (suc (suc (suc (suc (suc (suc (suc (suc (suc (suc (suc n)))))))))))) _ h)))
+
+pub last : {op : ℕ} → Comparison op → (op ≡ 5 → ⊥) → (op ≡ 6 → ⊥) → (op ≡ 7 → ⊥) → (op ≡ 8 → ⊥) → (op ≡ 9 → ⊥) → op ≡ 10
+last eq h5 h6 h7 h8 h9 = absurd (h5 refl)
+last ne h5 h6 h7 h8 h9 = absurd (h6 refl)
+last lt h5 h6 h7 h8 h9 = absurd (h7 refl)
+last le h5 h6 h7 h8 h9 = absurd (h8 refl)
+last gt h5 h6 h7 h8 h9 = absurd (h9 refl)
+last ge h5 h6 h7 h8 h9 = refl

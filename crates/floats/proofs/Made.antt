@@ -2,8 +2,8 @@
 use Prim.Native.Nat.{ℕ}
 use mathlib.Core.Path.{_≡_, refl, sym, ap, _∙_}
 use mathlib.Core.Bool.{Bool, true, false, cond, _&&_}
-use mathlib.Core.List.{List, [], _∷_}
-use lib.Dec.{ltb, eqb}
+use mathlib.Core.List.{List, [], _∷_, _++_}
+use lib.Dec.{ltb, leb, eqb}
 use lib.ListN.{length}
 use borrow.Author.Tests.{eq-eqb, ne-eqb, eqb-true, eqb-false}
 use Rattle.ir.specs.declared.«Type».{«Type» as IrType}
@@ -17,21 +17,23 @@ use Rattle.x86.specs.declared.enums.Operand.{Operand}
 use Rattle.x86.specs.declared.enums.BinOp.{BinOp}
 use Rattle.x86.specs.declared.enums.Instruction.{Instruction}
 use Rattle.x86.specs.declared.enums.Size.{Size}
+use Rattle.x86.specs.declared.enums.ConditionCode.{ConditionCode}
 use Rattle.x86.specs.declared.enums.ConvOp.{ConvOp}
 use Rattle.x86.specs.Registers.{xmm, RAX}
 use Rattle.codegen.specs.Context.{Context, displacement}
 use Rattle.codegen.specs.Utils.{sizeFrom, varSize, convertVar, convertOperand, sizeOr, loadFrom, loadValue, loadOperand}
 use Rattle.codegen.specs.Instructions.{operandKind, source, castOperand, widened, castBetween, generateCopy, generateCast}
-use Rattle.codegen.specs.Arithmetic.{floatOperation, generateBinary}
+use Rattle.codegen.specs.Arithmetic.{floatOperation, compared, floatComparison, comparison, integerBinary, generateBinary}
 use Rattle.codegen.specs.Generation.{generateInstr}
 use Rattle.utils.specs.Answers.{counted}
 use Rattle.layout.proofs.Passed.{apart}
-use Rattle.integers.specs.Integers.{isIntegerVar, slotOf, operandOf, copyList}
+use Rattle.integers.specs.Integers.{isIntegerVar, slotOf, operandOf, store, copyList}
 use Rattle.integers.proofs.Quick.{first, second, size-of-code, width-known, integral, holds, Some}
 use Rattle.integers.proofs.Quick.{sized as int-sized}
-use Rattle.floats.specs.Floats.{isFloatCode, isFloatVar, isOperation, ofVar, operationCount, copyCount, toFloatCount, castCount, floatCount, floatSize, floatOp, operationList, resizedList, toFloatList, fromFloatList, castFloats, openFloats, floatList}
-use Rattle.floats.proofs.Codes.{code-is, has-width, size-is, elf-is, eight-bytes, copies, stands, operation-is, op-done}
-use Rattle.floats.proofs.Cells.{copied, resized, to-float, from-float}
+use Rattle.floats.specs.Floats.{isFloatCode, isFloatVar, isOperation, isComparison, ofVar, operationCount, comparedCount, binaryCount, copyCount, toFloatCount, castCount, floatCount}
+use Rattle.floats.specs.Floats.{floatSize, floatOp, operationList, comparedSides, orderedList, equalList, comparedFloats, binaryFloats, resizedList, toFloatList, fromFloatList, castFloats, openFloats, floatList}
+use Rattle.floats.proofs.Codes.{code-is, has-width, size-is, elf-is, eight-bytes, copies, stands, operation-is, op-done, Comparison, eq, ne, lt, le, gt, ge, comparison-is}
+use Rattle.floats.proofs.Cells.{as-operation, as-comparison, operation-floats, comparison-floats, copied, resized, to-float, from-float}
 
 -- ---- variables
 
@@ -134,6 +136,70 @@ operation-long : (offsets : List ℕ) (d : VarId) (op : ℕ) (v w : VarId) → (
     → operationCount (length offsets) d op v w ≡ length (operationList offsets d (floatOp op) v w)
 unfolding operationList operationCount
 operation-long offsets d op v w h = rw (all (length offsets) d op v w h)
+
+-- ---- comparisons
+
+-- what a count that is not 0 says
+module _ (n : ℕ) (d : VarId) (op : ℕ) (v w : VarId) (h : comparedCount n d op v w ≡ 0 → ⊥) where
+  compared-all : (isFloatVar n v && (isComparison op && (ltb (w .id) n && isIntegerVar n d))) ≡ true
+  unfolding comparedCount
+  compared-all = holds (isFloatVar n v && (isComparison op && (ltb (w .id) n && isIntegerVar n d))) _ h
+
+  compared-parts : (isComparison op && (ltb (w .id) n && isIntegerVar n d)) ≡ true
+  compared-parts = second (isFloatVar n v) _ compared-all
+
+  compared-vars : (ltb (w .id) n && isIntegerVar n d) ≡ true
+  compared-vars = second (isComparison op) _ compared-parts
+
+  pub a-comparison : isComparison op ≡ true
+  a-comparison = first _ _ compared-parts
+
+-- left is asked for its size
+asked : (ctx : Context) (d v : VarId) (r : IrOp) (cc : ConditionCode) → Float ctx v
+    → comparison ctx d (IrOp.Var v) r cc ≡ floatComparison ctx d (IrOp.Var v) r (floatSize (v .ty .code)) cc
+unfolding comparison operandKind
+asked ctx d v r cc hv = rw (wide ctx v hv, size-is (code-is (v .ty .code) (float-code (length (ctx .offsets)) v hv)), float ctx v hv)
+
+sided : (ctx : Context) (d a b : VarId) (code : ℕ) (cc : ConditionCode) (more : List Instruction) → Slot ctx a → Slot ctx b → Integer ctx d
+    → compared ctx d (xmm 0) (IrOp.Var a) (xmm 1) (IrOp.Var b) (floatSize code) BinOp.UcomiF cc more
+    ≡ ok (comparedSides (ctx .offsets) (floatSize code) a b (Instruction.SetCC cc (Operand.Reg RAX) ∷ more ++ store (ctx .offsets) d RAX ∷ []))
+unfolding compared loadFrom
+sided ctx d a b code cc more ha hb hd =
+    rw (loaded ctx (xmm 0) a code ha, loaded ctx (xmm 1) b code hb, placed ctx d (int-slot ctx d hd), int-sized (length (ctx .offsets)) d hd)
+
+compared-done : (ctx : Context) (d v w : VarId) {op : ℕ} → Comparison op → Integer ctx d → Float ctx v → Slot ctx w
+    → integerBinary ctx d (binaryOp op) (IrOp.Var v) (IrOp.Var w) ≡ ok (comparedFloats (ctx .offsets) d op v w)
+unfolding binaryOp floatComparison comparedFloats equalList orderedList
+compared-done ctx d v w eq hd hv hw = asked ctx d v (IrOp.Var w) ConditionCode.E hv ∙ sided ctx d v w (v .ty .code) ConditionCode.E _ (has-slot ctx v hv) hw hd
+compared-done ctx d v w ne hd hv hw = asked ctx d v (IrOp.Var w) ConditionCode.NE hv ∙ sided ctx d v w (v .ty .code) ConditionCode.NE _ (has-slot ctx v hv) hw hd
+compared-done ctx d v w lt hd hv hw = asked ctx d v (IrOp.Var w) ConditionCode.L hv ∙ sided ctx d w v (v .ty .code) ConditionCode.A _ hw (has-slot ctx v hv) hd
+compared-done ctx d v w le hd hv hw = asked ctx d v (IrOp.Var w) ConditionCode.LE hv ∙ sided ctx d w v (v .ty .code) ConditionCode.AE _ hw (has-slot ctx v hv) hd
+compared-done ctx d v w gt hd hv hw = asked ctx d v (IrOp.Var w) ConditionCode.G hv ∙ sided ctx d v w (v .ty .code) ConditionCode.A _ (has-slot ctx v hv) hw hd
+compared-done ctx d v w ge hd hv hw = asked ctx d v (IrOp.Var w) ConditionCode.GE hv ∙ sided ctx d v w (v .ty .code) ConditionCode.AE _ (has-slot ctx v hv) hw hd
+
+comparison-made : (ctx : Context) (d : VarId) (op : ℕ) (v w : VarId) → (comparedCount (length (ctx .offsets)) d op v w ≡ 0 → ⊥)
+    → generateBinary ctx d (binaryOp op) (IrOp.Var v) (IrOp.Var w) ≡ ok (comparedFloats (ctx .offsets) d op v w)
+unfolding generateBinary
+comparison-made ctx d op v w h =
+    let s = compared-vars (length (ctx .offsets)) d op v w h in
+    let hd = second (ltb (w .id) (length (ctx .offsets))) _ s in
+    rw (integral (length (ctx .offsets)) d hd)
+    (compared-done ctx d v w (comparison-is op (a-comparison (length (ctx .offsets)) d op v w h)) hd (first _ _ (compared-all (length (ctx .offsets)) d op v w h)) (first _ _ s))
+
+of-length : (offsets : List ℕ) (d v w : VarId) {op : ℕ} → Comparison op → cond (leb op 6) 7 5 ≡ length (comparedFloats offsets d op v w)
+unfolding comparedFloats equalList orderedList
+of-length offsets d v w eq = refl
+of-length offsets d v w ne = refl
+of-length offsets d v w lt = refl
+of-length offsets d v w le = refl
+of-length offsets d v w gt = refl
+of-length offsets d v w ge = refl
+
+comparison-long : (offsets : List ℕ) (d : VarId) (op : ℕ) (v w : VarId) → (comparedCount (length offsets) d op v w ≡ 0 → ⊥)
+    → comparedCount (length offsets) d op v w ≡ length (comparedFloats offsets d op v w)
+unfolding comparedCount
+comparison-long offsets d op v w h =
+    rw (compared-all (length offsets) d op v w h) (of-length offsets d v w (comparison-is op (a-comparison (length offsets) d op v w h)))
 
 -- ---- copies
 
@@ -257,14 +323,22 @@ var-is f IrOp.Null h = absurd (h refl)
 data Counted (n : ℕ) : Instr → Type 0 where
   copy : (d v : VarId) → (copyCount n d v ≡ 0 → ⊥) → Counted n (Instr.Copy d (IrOp.Var v))
   cast : (d v : VarId) → Casts n d v → Counted n (Instr.Cast d (IrOp.Var v))
-  binary : (d : VarId) (op : ℕ) (v w : VarId) → (operationCount n d op v w ≡ 0 → ⊥) → Counted n (Instr.Binary d op (IrOp.Var v) (IrOp.Var w))
+  operation : (d : VarId) (op : ℕ) (v w : VarId) → leb 13 op ≡ true → (operationCount n d op v w ≡ 0 → ⊥) → Counted n (Instr.Binary d op (IrOp.Var v) (IrOp.Var w))
+  comparing : (d : VarId) (op : ℕ) (v w : VarId) → leb 13 op ≡ false → (comparedCount n d op v w ≡ 0 → ⊥) → Counted n (Instr.Binary d op (IrOp.Var v) (IrOp.Var w))
+
+pair-is : (n : ℕ) (d : VarId) (op : ℕ) (v w : VarId) → (binaryCount n d op v w ≡ 0 → ⊥) → Counted n (Instr.Binary d op (IrOp.Var v) (IrOp.Var w))
+pair-is n d op v w h = go (leb 13 op) refl
+  where
+    go : (b : Bool) → leb 13 op ≡ b → Counted n (Instr.Binary d op (IrOp.Var v) (IrOp.Var w))
+    go true e = operation d op v w e (as-operation d op v w n e h)
+    go false e = comparing d op v w e (as-comparison d op v w n e h)
 
 binary-is : (n : ℕ) (d : VarId) (op : ℕ) {l : IrOp} (r : IrOp) → IsVar l → (floatCount n (Instr.Binary d op l r) ≡ 0 → ⊥) → Counted n (Instr.Binary d op l r)
 unfolding floatCount
 binary-is n d op r (var v) h = go (var-is _ r h) h
   where
     go : {r : IrOp} → IsVar r → (floatCount n (Instr.Binary d op (IrOp.Var v) r) ≡ 0 → ⊥) → Counted n (Instr.Binary d op (IrOp.Var v) r)
-    go (var w) h = binary d op v w h
+    go (var w) h = pair-is n d op v w h
 
 copy-is : (n : ℕ) (d : VarId) {x : IrOp} → IsVar x → (floatCount n (Instr.Copy d x) ≡ 0 → ⊥) → Counted n (Instr.Copy d x)
 unfolding floatCount
@@ -295,14 +369,16 @@ made ctx labels ret args (copy d v h) =
     let p = copy-parts (length (ctx .offsets)) d v h in
     copy-made ctx d v (first _ _ p) (second (isFloatVar (length (ctx .offsets)) d) _ p)
 made ctx labels ret args (cast d v c) = cast-made ctx d v c
-made ctx labels ret args (binary d op v w h) = operation-made ctx d op v w h
+made ctx labels ret args (operation d op v w e h) = operation-made ctx d op v w h ∙ ap ok (sym (operation-floats d op v w (ctx .offsets) e))
+made ctx labels ret args (comparing d op v w e h) = comparison-made ctx d op v w h ∙ ap ok (sym (comparison-floats d op v w (ctx .offsets) e))
 
 -- .. and as many as are counted
 long : (offsets : List ℕ) {i : Instr} → Counted (length offsets) i → floatCount (length offsets) i ≡ length (openFloats offsets i)
-unfolding floatCount openFloats
+unfolding floatCount openFloats binaryCount binaryFloats
 long offsets (copy d v h) = copy-long offsets d v h
 long offsets (cast d v c) = cast-long offsets d v c
-long offsets (binary d op v w h) = operation-long offsets d op v w h
+long offsets (operation d op v w e h) = rw (e) (operation-long offsets d op v w h)
+long offsets (comparing d op v w e h) = rw (e) (comparison-long offsets d op v w h)
 
 -- ---- the list, by whether it is counted
 

@@ -11,10 +11,11 @@ use Rattle.ir.specs.Types.{isScalar, elementWidth, elfSize}
 use Rattle.x86.specs.declared.enums.Size.{Size}
 use Rattle.x86.specs.declared.enums.Operand.{Operand}
 use Rattle.x86.specs.declared.enums.BinOp.{BinOp}
+use Rattle.x86.specs.declared.enums.ConditionCode.{ConditionCode}
 use Rattle.x86.specs.declared.enums.ConvOp.{ConvOp}
 use Rattle.x86.specs.declared.enums.ExtendOp.{ExtendOp}
 use Rattle.x86.specs.declared.enums.Instruction.{Instruction}
-use Rattle.x86.specs.Registers.{xmm, RAX}
+use Rattle.x86.specs.Registers.{xmm, RAX, RCX}
 use Rattle.integers.specs.Integers.{isIntegerVar, slotOf, store, copyList}
 
 -- the codes of the floats of eight and of four bytes (01, "Sheet and tables")
@@ -43,6 +44,18 @@ ofVar z f IrOp.Null = z
 unfoldable pub operationCount : ℕ → VarId → ℕ → VarId → VarId → ℕ
 operationCount n d op v w = cond (isFloatVar n d && (isOperation op && (ltb (v .id) n && ltb (w .id) n))) 3 0
 
+-- the comparisons, by their numbers
+unfoldable pub isComparison : ℕ → Bool
+isComparison op = leb 5 op && leb op 10
+
+-- a comparison of a float with a variable of any type, which is taken as a float of left's size: two records more for = and ≠
+unfoldable pub comparedCount : ℕ → VarId → ℕ → VarId → VarId → ℕ
+comparedCount n d op v w = cond (isFloatVar n v && (isComparison op && (ltb (w .id) n && isIntegerVar n d))) (cond (leb op 6) 7 5) 0
+
+-- an operation, or a comparison
+unfoldable pub binaryCount : ℕ → VarId → ℕ → VarId → VarId → ℕ
+binaryCount n d op v w = cond (leb 13 op) (operationCount n d op v w) (comparedCount n d op v w)
+
 -- a copy of a variable of any type: its bytes are moved, as many as dest has
 unfoldable pub copyCount : ℕ → VarId → VarId → ℕ
 copyCount n d v = cond (isFloatVar n d && ltb (v .id) n) 2 0
@@ -59,7 +72,7 @@ castCount n d v = cond (isFloatVar n d) (cond (isFloatVar n v) 2 (toFloatCount n
 unfoldable pub floatCount : ℕ → Instr → ℕ
 floatCount n (Instr.Copy dest src) = ofVar 0 (copyCount n dest) src
 floatCount n (Instr.Unary dest op src) = 0
-floatCount n (Instr.Binary dest op left right) = ofVar 0 (λ v. ofVar 0 (operationCount n dest op v) right) left
+floatCount n (Instr.Binary dest op left right) = ofVar 0 (λ v. ofVar 0 (binaryCount n dest op v) right) left
 floatCount n (Instr.Cast dest src) = ofVar 0 (castCount n dest) src
 floatCount n (Instr.Zero dest) = 0
 floatCount n (Instr.Call dest symbol count) = 0
@@ -88,6 +101,35 @@ unfoldable pub operationList : List ℕ → VarId → BinOp → VarId → VarId 
 operationList offsets d op v w =
     Instruction.Binary BinOp.LoadF (Operand.Reg (xmm 0)) (slotOf offsets v) (floatSize (d .ty .code))
     ∷ Instruction.Binary op (Operand.Reg (xmm 0)) (slotOf offsets w) (floatSize (d .ty .code)) ∷ storeFloat offsets d ∷ []
+
+-- two variables as floats of a size, and their comparison
+abbrev pub comparedSides : List ℕ → Size → VarId → VarId → List Instruction → List Instruction
+comparedSides offsets size a b rest =
+    Instruction.Binary BinOp.LoadF (Operand.Reg (xmm 0)) (slotOf offsets a) size ∷ Instruction.Binary BinOp.LoadF (Operand.Reg (xmm 1)) (slotOf offsets b) size
+    ∷ Instruction.Binary BinOp.UcomiF (Operand.Reg (xmm 0)) (Operand.Reg (xmm 1)) size ∷ rest
+
+-- `seta al ; mov [dest], al`, behind the comparison of a and b
+unfoldable pub orderedList : List ℕ → VarId → Size → VarId → VarId → ConditionCode → List Instruction
+orderedList offsets d size a b cc = comparedSides offsets size a b (Instruction.SetCC cc (Operand.Reg RAX) ∷ store offsets d RAX ∷ [])
+
+-- `sete al ; setnp cl ; and al, cl ; mov [dest], al`: equality asks the parity flag too
+unfoldable pub equalList : List ℕ → VarId → Size → VarId → VarId → ConditionCode → ConditionCode → BinOp → List Instruction
+equalList offsets d size a b cc parity op =
+    comparedSides offsets size a b
+    (Instruction.SetCC cc (Operand.Reg RAX) ∷ Instruction.SetCC parity (Operand.Reg RCX) ∷ Instruction.Binary op (Operand.Reg RAX) (Operand.Reg RCX) Size.U8 ∷ store offsets d RAX ∷ [])
+
+-- a comparison by its number: < and <= have their sides swapped
+unfoldable pub comparedFloats : List ℕ → VarId → ℕ → VarId → VarId → List Instruction
+comparedFloats offsets d op v w =
+    getD
+    ([] ∷ [] ∷ [] ∷ [] ∷ [] ∷ equalList offsets d (floatSize (v .ty .code)) v w ConditionCode.E ConditionCode.NP BinOp.And
+    ∷ equalList offsets d (floatSize (v .ty .code)) v w ConditionCode.NE ConditionCode.P BinOp.Or
+    ∷ orderedList offsets d (floatSize (v .ty .code)) w v ConditionCode.A ∷ orderedList offsets d (floatSize (v .ty .code)) w v ConditionCode.AE
+    ∷ orderedList offsets d (floatSize (v .ty .code)) v w ConditionCode.A ∷ orderedList offsets d (floatSize (v .ty .code)) v w ConditionCode.AE ∷ []) op []
+
+-- an operation, or a comparison
+unfoldable pub binaryFloats : List ℕ → VarId → ℕ → VarId → VarId → List Instruction
+binaryFloats offsets d op v w = cond (leb 13 op) (operationList offsets d (floatOp op) v w) (comparedFloats offsets d op v w)
 
 -- a float of the other size
 unfoldable pub resizedList : List ℕ → VarId → VarId → List Instruction
@@ -124,7 +166,7 @@ castFloats offsets d v =
 unfoldable pub openFloats : List ℕ → Instr → List Instruction
 openFloats offsets (Instr.Copy dest src) = copyList offsets dest src
 openFloats offsets (Instr.Unary dest op src) = []
-openFloats offsets (Instr.Binary dest op left right) = ofVar [] (λ v. ofVar [] (operationList offsets dest (floatOp op) v) right) left
+openFloats offsets (Instr.Binary dest op left right) = ofVar [] (λ v. ofVar [] (binaryFloats offsets dest op v) right) left
 openFloats offsets (Instr.Cast dest src) = ofVar [] (castFloats offsets dest) src
 openFloats offsets (Instr.Zero dest) = []
 openFloats offsets (Instr.Call dest symbol count) = []

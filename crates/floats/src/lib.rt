@@ -11,7 +11,7 @@ ghost use lib.Dec.{ltb};
 ghost use lib.ListN.{length};
 ghost use Rattle.cells.specs.Cells.{cells, cellAt};
 ghost use Rattle.ir.specs.Function.{varAt, copyAt, binaryAt, castAt, instrAt};
-ghost use Rattle.floats.specs.Floats.{isFloatCode, isFloatVar, isOperation, operationCount, toFloatCount, castCount, floatCount};
+ghost use Rattle.floats.specs.Floats.{isFloatCode, isFloatVar, isOperation, operationCount, isComparison, comparedCount, binaryCount, toFloatCount, castCount, floatCount};
 
 pub fn is_float_code(code: u64) -> bool
     ensures { λ r. ⌜ r ≡ isFloatCode code ⌝ }
@@ -63,13 +63,48 @@ fn count_operation(offsets: &[u64], s: &[u8], k: usize) -> u64
     0
 }
 
+fn is_comparison(op: u64) -> bool
+    ensures { λ r. ⌜ r ≡ isComparison op ⌝ }
+{
+    if 5 <= op { op <= 10 } else { false }
+}
+
+// The records of a comparison of two variables.
+fn count_compared(offsets: &[u64], s: &[u8], k: usize) -> u64
+    requires { ⌜ k + 13 ≤ cells (now s) ⌝ }
+    ensures { λ r. ⌜ r ≡ comparedCount (length (now (offsets .entry))) (varAt (now (s .entry)) (k + 2)) (cellAt (now (s .entry)) (k + 1)) (varAt (now (s .entry)) (k + 6)) (varAt (now (s .entry)) (k + 10)) ⌝ }
+{
+    let op = cell_at(s, k + 1);
+    if is_float_var(offsets, s, k + 6) {
+        if is_comparison(op) {
+            if has_slot(offsets, s, k + 10) {
+                if is_integer_var(offsets, s, k + 2) {
+                    return if op <= 6 { 7 } else { 5 };
+                }
+            }
+        }
+    }
+    0
+}
+
+fn binary_count(offsets: &[u64], s: &[u8], k: usize) -> u64
+    requires { ⌜ k + 13 ≤ cells (now s) ⌝ }
+    ensures { λ r. ⌜ r ≡ binaryCount (length (now (offsets .entry))) (varAt (now (s .entry)) (k + 2)) (cellAt (now (s .entry)) (k + 1)) (varAt (now (s .entry)) (k + 6)) (varAt (now (s .entry)) (k + 10)) ⌝ }
+{
+    if 13 <= cell_at(s, k + 1) {
+        count_operation(offsets, s, k)
+    } else {
+        count_compared(offsets, s, k)
+    }
+}
+
 fn count_binary(offsets: &[u64], s: &[u8], k: usize) -> u64
     requires { ⌜ k + 13 ≤ cells (now s) ⌝ }
     ensures { λ r. ⌜ r ≡ floatCount (length (now (offsets .entry))) (binaryAt (now (s .entry)) k) ⌝ }
 {
     if cell_at(s, k + 5) == 0 {
         if cell_at(s, k + 9) == 0 {
-            return count_operation(offsets, s, k);
+            return binary_count(offsets, s, k);
         }
     }
     0
