@@ -18,7 +18,7 @@ use Rattle.x86.specs.declared.enums.BinOp.{BinOp}
 use Rattle.x86.specs.declared.enums.ConditionCode.{ConditionCode}
 use Rattle.x86.specs.declared.enums.Instruction.{Instruction}
 use Rattle.integers.specs.Integers.{copyList}
-use Rattle.floats.specs.Floats.{isFloatCode, isFloatVar, ofVar, operationCount, comparedCount, binaryCount, copyCount, castCount, floatCount, floatSize, floatOp, operationList, orderedList, equalList, comparedFloats, binaryFloats, resizedList, toFloatList, fromFloatList, castFloats, openFloats}
+use Rattle.floats.specs.Floats.{isFloatCode, isFloatVar, ofVar, operationCount, comparedCount, pairCount, copyCount, castCount, floatCount, floatSize, floatOp, operationList, orderedList, equalList, comparedFloats, binaryFloats, resizedList, toFloatList, fromFloatList, castFloats, openFloats}
 
 -- ---- variables
 
@@ -79,7 +79,7 @@ right-var s k e = is-var s (k + 9) e ∙ ap (λ n. IrOp.Var (varAt s n)) (ten k)
 -- ---- a binary operation
 
 abbrev counts : ℕ → List ℕ → ℕ → ℕ
-counts n s k = binaryCount n (varAt s (k + 2)) (cellAt s (k + 1)) (varAt s (k + 6)) (varAt s (k + 10))
+counts n s k = pairCount n (varAt s (k + 2)) (cellAt s (k + 1)) (varAt s (k + 6)) (varAt s (k + 10))
 
 abbrev lists : List ℕ → List ℕ → ℕ → List Instruction
 lists offsets s k = binaryFloats offsets (varAt s (k + 2)) (cellAt s (k + 1)) (varAt s (k + 6)) (varAt s (k + 10))
@@ -115,12 +115,12 @@ binary-open offsets n s k h =
 
 -- .. an operation or a comparison, by its number
 module _ (d : VarId) (op : ℕ) (v w : VarId) where
-  pub as-operation : (n : ℕ) → leb 13 op ≡ true → (binaryCount n d op v w ≡ 0 → ⊥) → operationCount n d op v w ≡ 0 → ⊥
-  unfolding binaryCount
+  pub as-operation : (n : ℕ) → leb 13 op ≡ true → (pairCount n d op v w ≡ 0 → ⊥) → operationCount n d op v w ≡ 0 → ⊥
+  unfolding pairCount
   as-operation n e h = rw (e) at h
 
-  pub as-comparison : (n : ℕ) → leb 13 op ≡ false → (binaryCount n d op v w ≡ 0 → ⊥) → comparedCount n d op v w ≡ 0 → ⊥
-  unfolding binaryCount
+  pub as-comparison : (n : ℕ) → leb 13 op ≡ false → (pairCount n d op v w ≡ 0 → ⊥) → comparedCount n d op v w ≡ 0 → ⊥
+  unfolding pairCount
   as-comparison n e h = rw (e) at h
 
   pub operation-floats : (offsets : List ℕ) → leb 13 op ≡ true → binaryFloats offsets d op v w ≡ operationList offsets d (floatOp op) v w

@@ -30,7 +30,7 @@ use Rattle.layout.proofs.Passed.{apart}
 use Rattle.integers.specs.Integers.{isIntegerVar, slotOf, operandOf, store, copyList}
 use Rattle.integers.proofs.Quick.{first, second, size-of-code, width-known, integral, holds, Some}
 use Rattle.integers.proofs.Quick.{sized as int-sized}
-use Rattle.floats.specs.Floats.{isFloatCode, isFloatVar, isOperation, isComparison, ofVar, operationCount, comparedCount, binaryCount, copyCount, toFloatCount, castCount, floatCount}
+use Rattle.floats.specs.Floats.{isFloatCode, isFloatVar, isOperation, isComparison, ofVar, operationCount, comparedCount, pairCount, copyCount, toFloatCount, castCount, floatCount}
 use Rattle.floats.specs.Floats.{floatSize, floatOp, operationList, comparedSides, orderedList, equalList, comparedFloats, binaryFloats, resizedList, toFloatList, fromFloatList, castFloats, openFloats, floatList}
 use Rattle.floats.proofs.Codes.{code-is, has-width, size-is, elf-is, eight-bytes, copies, stands, operation-is, op-done, Comparison, eq, ne, lt, le, gt, ge, comparison-is}
 use Rattle.floats.proofs.Cells.{as-operation, as-comparison, operation-floats, comparison-floats, copied, resized, to-float, from-float}
@@ -326,7 +326,7 @@ data Counted (n : ℕ) : Instr → Type 0 where
   operation : (d : VarId) (op : ℕ) (v w : VarId) → leb 13 op ≡ true → (operationCount n d op v w ≡ 0 → ⊥) → Counted n (Instr.Binary d op (IrOp.Var v) (IrOp.Var w))
   comparing : (d : VarId) (op : ℕ) (v w : VarId) → leb 13 op ≡ false → (comparedCount n d op v w ≡ 0 → ⊥) → Counted n (Instr.Binary d op (IrOp.Var v) (IrOp.Var w))
 
-pair-is : (n : ℕ) (d : VarId) (op : ℕ) (v w : VarId) → (binaryCount n d op v w ≡ 0 → ⊥) → Counted n (Instr.Binary d op (IrOp.Var v) (IrOp.Var w))
+pair-is : (n : ℕ) (d : VarId) (op : ℕ) (v w : VarId) → (pairCount n d op v w ≡ 0 → ⊥) → Counted n (Instr.Binary d op (IrOp.Var v) (IrOp.Var w))
 pair-is n d op v w h = go (leb 13 op) refl
   where
     go : (b : Bool) → leb 13 op ≡ b → Counted n (Instr.Binary d op (IrOp.Var v) (IrOp.Var w))
@@ -374,7 +374,7 @@ made ctx labels ret args (comparing d op v w e h) = comparison-made ctx d op v w
 
 -- .. and as many as are counted
 long : (offsets : List ℕ) {i : Instr} → Counted (length offsets) i → floatCount (length offsets) i ≡ length (openFloats offsets i)
-unfolding floatCount openFloats binaryCount binaryFloats
+unfolding floatCount openFloats pairCount binaryFloats
 long offsets (copy d v h) = copy-long offsets d v h
 long offsets (cast d v c) = cast-long offsets d v c
 long offsets (operation d op v w e h) = rw (e) (operation-long offsets d op v w h)

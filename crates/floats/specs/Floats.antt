@@ -53,8 +53,8 @@ unfoldable pub comparedCount : ℕ → VarId → ℕ → VarId → VarId → ℕ
 comparedCount n d op v w = cond (isFloatVar n v && (isComparison op && (ltb (w .id) n && isIntegerVar n d))) (cond (leb op 6) 7 5) 0
 
 -- an operation, or a comparison
-unfoldable pub binaryCount : ℕ → VarId → ℕ → VarId → VarId → ℕ
-binaryCount n d op v w = cond (leb 13 op) (operationCount n d op v w) (comparedCount n d op v w)
+unfoldable pub pairCount : ℕ → VarId → ℕ → VarId → VarId → ℕ
+pairCount n d op v w = cond (leb 13 op) (operationCount n d op v w) (comparedCount n d op v w)
 
 -- a copy of a variable of any type: its bytes are moved, as many as dest has
 unfoldable pub copyCount : ℕ → VarId → VarId → ℕ
@@ -72,7 +72,7 @@ castCount n d v = cond (isFloatVar n d) (cond (isFloatVar n v) 2 (toFloatCount n
 unfoldable pub floatCount : ℕ → Instr → ℕ
 floatCount n (Instr.Copy dest src) = ofVar 0 (copyCount n dest) src
 floatCount n (Instr.Unary dest op src) = 0
-floatCount n (Instr.Binary dest op left right) = ofVar 0 (λ v. ofVar 0 (binaryCount n dest op v) right) left
+floatCount n (Instr.Binary dest op left right) = ofVar 0 (λ v. ofVar 0 (pairCount n dest op v) right) left
 floatCount n (Instr.Cast dest src) = ofVar 0 (castCount n dest) src
 floatCount n (Instr.Zero dest) = 0
 floatCount n (Instr.Call dest symbol count) = 0

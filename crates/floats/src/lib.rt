@@ -11,9 +11,10 @@ ghost use lib.Dec.{ltb};
 ghost use lib.ListN.{length};
 ghost use Rattle.cells.specs.Cells.{cells, cellAt};
 ghost use Rattle.ir.specs.Function.{varAt, copyAt, binaryAt, castAt, instrAt};
-ghost use Rattle.floats.specs.Floats.{isFloatCode, isFloatVar, isOperation, operationCount, isComparison, comparedCount, binaryCount, toFloatCount, castCount, floatCount};
+ghost use Rattle.floats.specs.Floats.{isFloatCode, isFloatVar, isOperation, operationCount, isComparison, comparedCount, pairCount, toFloatCount, castCount, floatCount};
 
-pub fn is_float_code(code: u64) -> bool
+// The codes of the floats of eight and of four bytes.
+fn is_float_code(code: u64) -> bool
     ensures { λ r. ⌜ r ≡ isFloatCode code ⌝ }
 {
     if code == 5 { true } else { code == 6 }
@@ -40,13 +41,14 @@ fn is_float_var(offsets: &[u64], s: &[u8], k: usize) -> bool
     false
 }
 
+// + - * /
 fn is_operation(op: u64) -> bool
     ensures { λ r. ⌜ r ≡ isOperation op ⌝ }
 {
     if 13 <= op { op <= 16 } else { false }
 }
 
-// The records of an operation on two variables.
+// The records of an arithmetic operation on two variables.
 fn count_operation(offsets: &[u64], s: &[u8], k: usize) -> u64
     requires { ⌜ k + 13 ≤ cells (now s) ⌝ }
     ensures { λ r. ⌜ r ≡ operationCount (length (now (offsets .entry))) (varAt (now (s .entry)) (k + 2)) (cellAt (now (s .entry)) (k + 1)) (varAt (now (s .entry)) (k + 6)) (varAt (now (s .entry)) (k + 10)) ⌝ }
@@ -63,6 +65,7 @@ fn count_operation(offsets: &[u64], s: &[u8], k: usize) -> u64
     0
 }
 
+// == != < <= > >=
 fn is_comparison(op: u64) -> bool
     ensures { λ r. ⌜ r ≡ isComparison op ⌝ }
 {
@@ -87,9 +90,10 @@ fn count_compared(offsets: &[u64], s: &[u8], k: usize) -> u64
     0
 }
 
-fn binary_count(offsets: &[u64], s: &[u8], k: usize) -> u64
+// The records of a binary operation on two variables.
+fn count_pair(offsets: &[u64], s: &[u8], k: usize) -> u64
     requires { ⌜ k + 13 ≤ cells (now s) ⌝ }
-    ensures { λ r. ⌜ r ≡ binaryCount (length (now (offsets .entry))) (varAt (now (s .entry)) (k + 2)) (cellAt (now (s .entry)) (k + 1)) (varAt (now (s .entry)) (k + 6)) (varAt (now (s .entry)) (k + 10)) ⌝ }
+    ensures { λ r. ⌜ r ≡ pairCount (length (now (offsets .entry))) (varAt (now (s .entry)) (k + 2)) (cellAt (now (s .entry)) (k + 1)) (varAt (now (s .entry)) (k + 6)) (varAt (now (s .entry)) (k + 10)) ⌝ }
 {
     if 13 <= cell_at(s, k + 1) {
         count_operation(offsets, s, k)
@@ -98,18 +102,20 @@ fn binary_count(offsets: &[u64], s: &[u8], k: usize) -> u64
     }
 }
 
+// .. on any operands: 0 unless both are variables.
 fn count_binary(offsets: &[u64], s: &[u8], k: usize) -> u64
     requires { ⌜ k + 13 ≤ cells (now s) ⌝ }
     ensures { λ r. ⌜ r ≡ floatCount (length (now (offsets .entry))) (binaryAt (now (s .entry)) k) ⌝ }
 {
     if cell_at(s, k + 5) == 0 {
         if cell_at(s, k + 9) == 0 {
-            return binary_count(offsets, s, k);
+            return count_pair(offsets, s, k);
         }
     }
     0
 }
 
+// A copy of a variable to a float.
 fn count_copy(offsets: &[u64], s: &[u8], k: usize) -> u64
     requires { ⌜ k + 13 ≤ cells (now s) ⌝ }
     ensures { λ r. ⌜ r ≡ floatCount (length (now (offsets .entry))) (copyAt (now (s .entry)) k) ⌝ }
@@ -156,6 +162,7 @@ fn cast_count(offsets: &[u64], s: &[u8], k: usize) -> u64
     0
 }
 
+// .. of any operand: 0 unless it is a variable.
 fn count_cast(offsets: &[u64], s: &[u8], k: usize) -> u64
     requires { ⌜ k + 13 ≤ cells (now s) ⌝ }
     ensures { λ r. ⌜ r ≡ floatCount (length (now (offsets .entry))) (castAt (now (s .entry)) k) ⌝ }

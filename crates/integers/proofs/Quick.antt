@@ -59,7 +59,7 @@ size-of-code (suc (suc (suc (suc (suc (suc (suc (suc (suc zero))))))))) h = refl
 size-of-code (suc (suc (suc (suc (suc (suc (suc (suc (suc (suc zero)))))))))) h = refl
 size-of-code (suc (suc (suc (suc (suc (suc (suc (suc (suc (suc (suc n))))))))))) h = apart (sym h)
 
-pub has-width : (code : ℕ) → isInteger code ≡ true → eqb (elementWidth code) 0 ≡ false
+has-width : (code : ℕ) → isInteger code ≡ true → eqb (elementWidth code) 0 ≡ false
 unfolding isInteger elementWidth
 has-width zero h = apart (sym h)
 has-width (suc zero) h = refl
@@ -365,7 +365,7 @@ var-widened ctx d v (suc (suc (suc (suc (suc (suc (suc (suc (suc (suc (suc zero)
 var-widened ctx d v (suc (suc (suc (suc (suc (suc (suc (suc (suc (suc (suc (suc zero)))))))))))) dest h l hd = apart (sym h)
 var-widened ctx d v (suc (suc (suc (suc (suc (suc (suc (suc (suc (suc (suc (suc (suc n))))))))))))) dest h l hd = apart (sym h)
 
-pub code-of : (n : ℕ) (v : VarId) → isIntegerVar n v ≡ true → isInteger (v .ty .code) ≡ true
+code-of : (n : ℕ) (v : VarId) → isIntegerVar n v ≡ true → isInteger (v .ty .code) ≡ true
 unfolding isIntegerVar
 code-of n v h = second (isScalar (v .ty)) _ (second (ltb (v .id) n) _ h)
 
@@ -453,7 +453,7 @@ pub holds : (b : Bool) (n : ℕ) → (cond b n 0 ≡ 0 → ⊥) → b ≡ true
 holds true n h = refl
 holds false n h = absurd (h refl)
 
-pub nonzero : (b : Bool) (n : ℕ) → (cond b n 0 ≡ 0 → ⊥) → n ≡ 0 → ⊥
+nonzero : (b : Bool) (n : ℕ) → (cond b n 0 ≡ 0 → ⊥) → n ≡ 0 → ⊥
 nonzero true n h = h
 nonzero false n h = absurd (h refl)
 
