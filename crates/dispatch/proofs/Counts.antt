@@ -27,9 +27,9 @@ only-counted at (ok is) old n r z e = (sym e, record { long = refl; bytes = λ h
     full (suc m) q h = omega (arith, r, h)
 only-counted at (refused m) old n r z e = absurd (never m n e)
 
--- room for five records
-pub five-fit : (len at : ℕ) → 5 ≤ (len - at) / 64 → at + 320 ≤ len
-five-fit len at h = omega (arith, h)
+-- room for seven records
+pub seven-fit : (len at : ℕ) → 7 ≤ (len - at) / 64 → at + 448 ≤ len
+seven-fit len at h = omega (arith, h)
 
 -- no record, no byte
 pub unwritten : (old : List ℕ) (at : ℕ) (is : List Instruction) → length is ≡ 0 → write old at (listBytes is) ≡ old

@@ -4,6 +4,8 @@ use arithmetic::generate_unary;
 use calls::generate_call;
 use casts::generate_cast;
 use cells::cell_at;
+use floats::count_float;
+use floats::lists::put_float;
 use instructions::generate_copy;
 use instructions::generate_jmp_if_not;
 use instructions::generate_jump;
@@ -117,7 +119,7 @@ fn put_made(
     put_records(out, at, generate_instr(tables, offsets, labels, ret, i))
 }
 
-// From its cells where it is an instruction on integers, else by its list maker; with room for five records.
+// From its cells where it is an instruction on integers or on float variables, else by its list maker; with room for seven records.
 fn put_quickly(
     tables: &[u8],
     offsets: &[u64],
@@ -131,13 +133,17 @@ fn put_quickly(
     requires { ⌜ behind (now sheet) k ≤ cells (now sheet) ⌝ }
     requires { ⌜ argumentsAt (now sheet) k ≤ 64 ⌝ }
     requires { ⌜ at ≤ 4294967296 ⌝ }
-    requires { ⌜ at + 320 ≤ length (now out) ⌝ }
+    requires { ⌜ at + 448 ≤ length (now out) ⌝ }
     ensures { λ r. ⌜ madeSays r ≡ counted (generateInstr (lent (now (tables .entry)) (now (offsets .entry))) labels ret (instrAt (now (sheet .entry)) k) (operandsAt (now (sheet .entry)) (argumentsAt (now (sheet .entry)) k) (k + 13))) ⌝ }
     ensures { λ r. ⌜ PutAll at (generateInstr (lent (now (tables .entry)) (now (offsets .entry))) labels ret (instrAt (now (sheet .entry)) k) (operandsAt (now (sheet .entry)) (argumentsAt (now (sheet .entry)) k) (k + 13))) (now (out .entry)) (now (out .exit)) ⌝ }
 {
     let n = put_quick(offsets, sheet, k, labels, ret.is_float(), out, at);
     if n != 0 {
         return Made::Records(n);
+    }
+    let m = put_float(offsets, sheet, k, out, at);
+    if m != 0 {
+        return Made::Records(m);
     }
     put_made(tables, offsets, sheet, k, labels, ret, out, at)
 }
@@ -166,9 +172,13 @@ pub fn put_instr(
         if n != 0 {
             return Made::Records(n);
         }
+        let m = count_float(offsets, sheet, k);
+        if m != 0 {
+            return Made::Records(m);
+        }
         return put_made(tables, offsets, sheet, k, labels, ret, out, at);
     }
-    if left < 5 {
+    if left < 7 {
         return put_made(tables, offsets, sheet, k, labels, ret, out, at);
     }
     put_quickly(tables, offsets, sheet, k, labels, ret, out, at)

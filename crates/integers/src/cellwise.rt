@@ -53,7 +53,7 @@ fn negated(n: u64) -> u64
 }
 
 // An operand's tag: a slot, a constant, or none.
-fn operand_tag(offsets: &[u64], s: &[u8], k: usize) -> u64
+pub fn operand_tag(offsets: &[u64], s: &[u8], k: usize) -> u64
     requires { ⌜ k + 4 ≤ cells (now s) ⌝ }
     ensures { λ r. ⌜ r ≡ tagOf (operandOf (now (offsets .entry)) (operandAt (now (s .entry)) k)) ⌝ }
 {
@@ -67,7 +67,7 @@ fn operand_tag(offsets: &[u64], s: &[u8], k: usize) -> u64
 }
 
 // An operand's value: a slot's displacement, or the constant.
-fn operand_value(offsets: &[u64], s: &[u8], k: usize) -> u64
+pub fn operand_value(offsets: &[u64], s: &[u8], k: usize) -> u64
     requires { ⌜ k + 4 ≤ cells (now s) ⌝ }
     ensures { λ r. ⌜ r ≡ valueOf (operandOf (now (offsets .entry)) (operandAt (now (s .entry)) k)) ⌝ }
 {
@@ -80,14 +80,14 @@ fn operand_value(offsets: &[u64], s: &[u8], k: usize) -> u64
 }
 
 // 1 for 1, else 0.
-fn truth(n: u64) -> u64
+pub fn truth(n: u64) -> u64
     ensures { λ r. ⌜ r ≡ cond (eqb n 1) 1 0 ⌝ }
 {
     if n == 1 { 1 } else { 0 }
 }
 
 // A load into a general register: one byte by Movzx, or by a four-byte Mov of a constant; the rest by Mov.
-fn load_cells(reg: u64, tag: u64, value: u64, size: Size) -> Record
+pub fn load_cells(reg: u64, tag: u64, value: u64, size: Size) -> Record
     ensures { λ r. ⌜ recordSays r ≡ loadCells reg tag value size ⌝ }
 {
     let code = size.code();
@@ -197,7 +197,7 @@ pub fn value_size(s: &[u8], k: usize) -> Size
     }
 }
 
-fn constant_size(short: u64) -> Size
+pub fn constant_size(short: u64) -> Size
     ensures { λ r. ⌜ r ≡ cond (eqb short 1) Size.U32 Size.U64 ⌝ }
 {
     if short == 1 { Size::U32 } else { Size::U64 }
@@ -411,7 +411,7 @@ pub fn rep_stosb() -> Record
 }
 
 // The size of an operand where none is given: its own, and none for Null.
-fn operand_size(s: &[u8], k: usize) -> Size
+pub fn operand_size(s: &[u8], k: usize) -> Size
     requires { ⌜ k + 4 ≤ cells (now s) ⌝ }
     ensures { λ r. ⌜ r ≡ operandSize (operandAt (now (s .entry)) k) ⌝ }
 {

@@ -16,7 +16,7 @@ ghost use Rattle.ir.specs.Function.{varAt, operandAt, binaryAt, castAt, jumpIfN
 ghost use Rattle.integers.specs.Integers.{isInteger, isIntegerVar, isIntegerOperand, binaryCount, quickCount, valueWidth, castCount};
 
 // Integers, Bool, Char, Byte and Address.
-fn is_integer(code: u64) -> bool
+pub fn is_integer(code: u64) -> bool
     ensures { λ r. ⌜ r ≡ isInteger code ⌝ }
 {
     match code {
@@ -46,7 +46,7 @@ pub fn is_integer_var(offsets: &[u64], s: &[u8], k: usize) -> bool
 }
 
 // Whether the operand at cell `k` is such a variable, or a constant that is no float and no address.
-fn is_integer_operand(offsets: &[u64], s: &[u8], k: usize) -> bool
+pub fn is_integer_operand(offsets: &[u64], s: &[u8], k: usize) -> bool
     requires { ⌜ k + 4 ≤ cells (now s) ⌝ }
     ensures { λ r. ⌜ r ≡ isIntegerOperand (length (now (offsets .entry))) (operandAt (now (s .entry)) k) ⌝ }
 {
@@ -140,7 +140,7 @@ fn width(code: u64) -> u64
 }
 
 // .. and of the variable at cell `k`.
-fn var_width(s: &[u8], k: usize) -> u64
+pub fn var_width(s: &[u8], k: usize) -> u64
     requires { ⌜ k + 3 ≤ cells (now s) ⌝ }
     ensures { λ r. ⌜ r ≡ elementWidth (varAt (now (s .entry)) k .ty .code) ⌝ }
 {
