@@ -16,7 +16,7 @@ use Rattle.codegen.specs.Context.{Context}
 use Rattle.codegen.specs.Utils.{sizeFrom, sizeOr}
 use Rattle.codegen.specs.Arithmetic.{floatOperation, floatBinary}
 use Rattle.layout.proofs.Passed.{apart}
-use Rattle.integers.proofs.Quick.{first, second}
+use Rattle.integers.proofs.Quick.{second}
 use Rattle.floats.specs.Floats.{isFloatCode, isOperation, isComparison, floatSize, floatOp}
 
 -- of eight bytes, and of four

@@ -10,7 +10,7 @@ use Rattle.ir.specs.declared.«Type».{«Type» as IrType}
 use Rattle.ir.specs.declared.VarId.{VarId}
 use Rattle.ir.specs.declared.Operand.{Operand as IrOp}
 use Rattle.ir.specs.declared.Instr.{Instr}
-use Rattle.ir.specs.Types.{ok, _>>=_, isScalar, elementWidth, bytes, typeSize, isFloat, elfSize, operandSize}
+use Rattle.ir.specs.Types.{ok, isScalar, elementWidth, bytes, typeSize, isFloat, elfSize, operandSize}
 use Rattle.ir.specs.Function.{binaryOp}
 use Rattle.x86.specs.declared.register.Register.{Register}
 use Rattle.x86.specs.declared.enums.Operand.{Operand}
@@ -18,15 +18,13 @@ use Rattle.x86.specs.declared.enums.BinOp.{BinOp}
 use Rattle.x86.specs.declared.enums.Instruction.{Instruction}
 use Rattle.x86.specs.declared.enums.Size.{Size}
 use Rattle.x86.specs.declared.enums.ConditionCode.{ConditionCode}
-use Rattle.x86.specs.declared.enums.ConvOp.{ConvOp}
 use Rattle.x86.specs.Registers.{xmm, RAX}
 use Rattle.codegen.specs.Context.{Context, displacement}
-use Rattle.codegen.specs.Utils.{sizeFrom, varSize, convertVar, convertOperand, sizeOr, loadFrom, loadValue, loadOperand}
+use Rattle.codegen.specs.Utils.{sizeFrom, varSize, convertVar, convertOperand, loadFrom, loadValue, loadOperand}
 use Rattle.codegen.specs.Instructions.{operandKind, source, castOperand, widened, castBetween, generateCopy, generateCast}
 use Rattle.codegen.specs.Arithmetic.{floatOperation, compared, floatComparison, comparison, integerBinary, generateBinary}
 use Rattle.codegen.specs.Generation.{generateInstr}
 use Rattle.utils.specs.Answers.{counted}
-use Rattle.layout.proofs.Passed.{apart}
 use Rattle.integers.specs.Integers.{isIntegerVar, slotOf, operandOf, store, copyList}
 use Rattle.integers.proofs.Quick.{first, second, size-of-code, width-known, integral, holds, Some}
 use Rattle.integers.proofs.Quick.{sized as int-sized}

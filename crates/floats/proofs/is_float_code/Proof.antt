@@ -1,6 +1,5 @@
 use Rattle.floats.specs.Floats.{isFloatCode}
 use borrow.Author.Tests.{eq-eqb, ne-eqb}
-use borrow.Author.Needs.{needs}
 use Rattle.floats.proofs.is_float_code.Statement.{statement}
 use Rattle.floats.proofs.is_float_code.Tie as tie
 

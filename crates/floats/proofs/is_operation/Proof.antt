@@ -1,6 +1,5 @@
 use Rattle.floats.specs.Floats.{isOperation}
 use borrow.Author.Tests.{le-leb, lt-leb}
-use borrow.Author.Needs.{needs}
 use Rattle.floats.proofs.is_operation.Statement.{statement}
 use Rattle.floats.proofs.is_operation.Tie as tie
 

@@ -4,7 +4,6 @@ use native.Mathlib.Omega.{arith}
 use Rattle.records.proofs.Written.{both}
 use Rattle.x86.specs.Records.{listBytes, recordOf}
 use Rattle.records.specs.Records.{recordsOf, bytesOfRecords}
-use Rattle.integers.specs.Integers.{slotOf}
 use Rattle.floats.specs.Floats.{equalList}
 use borrow.Author.Needs.{needs}
 use Rattle.floats.proofs.lists.put_equal.Statement.{statement}

@@ -4,7 +4,7 @@ use native.Mathlib.Omega.{arith}
 use borrow.Author.Tests.{eq-eqb, le-leb, lt-leb}
 use lib.ListN.{length}
 use Rattle.cells.specs.Cells.{cellAt, write}
-use Rattle.ir.specs.Function.{varAt, binaryAt, castAt, instrAt}
+use Rattle.ir.specs.Function.{varAt, binaryAt, instrAt}
 use Rattle.x86.specs.Records.{listBytes}
 use Rattle.integers.proofs.Left.{none-written, is-0, is-2, is-3}
 use Rattle.floats.specs.Floats.{floatCount, floatList, openFloats}

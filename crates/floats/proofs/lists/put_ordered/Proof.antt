@@ -2,9 +2,8 @@ use mathlib.Core.Path.{_∙_}
 use mathlib.Core.List.{[], _∷_}
 use native.Mathlib.Omega.{arith}
 use Rattle.records.proofs.Written.{both, single}
-use Rattle.x86.specs.Records.{listBytes, recordOf}
+use Rattle.x86.specs.Records.{listBytes}
 use Rattle.records.specs.Records.{recordsOf, bytesOfRecords}
-use Rattle.integers.specs.Integers.{slotOf}
 use Rattle.floats.specs.Floats.{orderedList}
 use borrow.Author.Needs.{needs}
 use Rattle.floats.proofs.lists.put_ordered.Statement.{statement}
