@@ -317,7 +317,7 @@ var-is f (IrOp.Address v) h = absurd (h refl)
 var-is f (IrOp.DataAddress k) h = absurd (h refl)
 var-is f IrOp.Null h = absurd (h refl)
 
--- an instruction of which one is counted
+-- an instruction that is counted
 data Counted (n : ℕ) : Instr → Type 0 where
   copy : (d v : VarId) → (copyCount n d v ≡ 0 → ⊥) → Counted n (Instr.Copy d (IrOp.Var v))
   cast : (d v : VarId) → Casts n d v → Counted n (Instr.Cast d (IrOp.Var v))
