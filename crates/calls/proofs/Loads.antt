@@ -11,10 +11,11 @@ use Rattle.x86.specs.declared.enums.Instruction.{Instruction}
 use Rattle.codegen.specs.Context.{Context}
 use Rattle.codegen.specs.Instructions.{paramRegs, paramFregs, floating, loadArgument, loadArguments}
 use Rattle.codegen.specs.Frame.{registersOf}
-use Rattle.utils.specs.Answers.{counted, emitted}
+use Rattle.codegen.proofs.Results.{never}
+use Rattle.utils.specs.Answers.{counted, emitted, placed}
 use Rattle.utils.specs.Parts.{Put, PutAll}
 use Rattle.utils.proofs.Parts.{Going, begins, goes-on, before, before-none, before-both, put-emitted, made-none, made-all}
-use Rattle.calls.specs.Calls.{countFloats}
+use Rattle.calls.specs.Calls.{countFloats, alone}
 
 -- a record, and those of a result behind it
 in-turn : (a : Result Instruction) (r : Result (List Instruction)) → (a >>= λ load. r >>= λ rest. ok (load ∷ rest)) ≡ (a >>= λ load. before (load ∷ []) r)
@@ -74,7 +75,7 @@ module _ {ctx : Context} {s : List ℕ} {n from at : ℕ} {old : List ℕ} {left
         ∙ ap (λ (y : IrOp). loadArguments ctx (done - floats) floats (y ∷ operandsAt s (left - 1) (cell + 4))) (sym e)
         ∙ turn ctx done floats x (operandsAt s (left - 1) (cell + 4)) (g .some) ∙ rw (c, j, d) refl
 
-    pub loaded-more : {i : Instruction} {more : ℕ} {newer : List ℕ} → q ≡ ok i → more ≡ floats + cond b 1 0
+    loaded-more : {i : Instruction} {more : ℕ} {newer : List ℕ} → q ≡ ok i → more ≡ floats + cond b 1 0
         → newer ≡ emitted (at + 64 * done) (i ∷ []) new → Loading ctx s n from at old (left - 1) (cell + 4) (done + 1) more newer
     loaded-more {i} {more} {newer} f m p =
         record {
@@ -91,9 +92,31 @@ module _ {ctx : Context} {s : List ℕ} {n from at : ℕ} {old : List ℕ} {left
         few true z = omega (arith, g .some)
         few false z = omega (arith, g .some)
 
-    pub load-refused : {m : ℕ} → q ≡ refused m
+    load-refused : {m : ℕ} → q ≡ refused m
         → (refused m ≡ counted (loadArguments ctx 0 0 (operandsAt s n from))) × PutAll at (loadArguments ctx 0 0 (operandsAt s n from)) old new
     load-refused {m} f = made-none (g .going) (refused m) (λ is. ok is) at (left-is ∙ rw f refl) refl
+
+  -- .. and by what was made of it
+  module _ (h : 0 < left) {b : Bool} (d : b ≡ floating (operandAt s cell)) {k : ℕ} (j : k ≡ cond b floats (done - floats)) {r : Result ℕ} {newer : List ℕ}
+      (c : r ≡ counted (alone (loadArgument ctx (registersOf b) k (operandAt s cell))))
+      (p : newer ≡ placed (at + 64 * done) (alone (loadArgument ctx (registersOf b) k (operandAt s cell))) new) where
+    pub argument-loaded : {m more : ℕ} → r ≡ ok m → more ≡ floats + cond b 1 0 → Loading ctx s n from at old (left - 1) (cell + 4) (done + 1) more newer
+    argument-loaded {m} {more} f e = go (loadArgument ctx (registersOf b) k (operandAt s cell)) refl (sym f ∙ c) p
+      where
+        go : (y : Result Instruction) → loadArgument ctx (registersOf b) k (operandAt s cell) ≡ y → ok m ≡ counted (alone y)
+            → newer ≡ placed (at + 64 * done) (alone y) new → Loading ctx s n from at old (left - 1) (cell + 4) (done + 1) more newer
+        go (ok i) z q w = loaded-more h refl d j refl z e w
+        go (refused x) z q w = absurd (never (sym q))
+
+    pub argument-refused : {m : ℕ} → r ≡ refused m
+        → (refused m ≡ counted (loadArguments ctx 0 0 (operandsAt s n from))) × PutAll at (loadArguments ctx 0 0 (operandsAt s n from)) old newer
+    argument-refused {m} f = go (loadArgument ctx (registersOf b) k (operandAt s cell)) refl (sym f ∙ c) p
+      where
+        go : (y : Result Instruction) → loadArgument ctx (registersOf b) k (operandAt s cell) ≡ y → refused m ≡ counted (alone y)
+            → newer ≡ placed (at + 64 * done) (alone y) new
+            → (refused m ≡ counted (loadArguments ctx 0 0 (operandsAt s n from))) × PutAll at (loadArguments ctx 0 0 (operandsAt s n from)) old newer
+        go (ok i) z q w = absurd (never q)
+        go (refused x) z q w = rw (w, q) (load-refused h refl d j refl z)
 
   pub all-loaded : {newer : List ℕ} → left ≤ 0 → newer ≡ emitted (at + 64 * done) (countFloats floats) new
       → (ok (done + 1) ≡ counted (loadArguments ctx 0 0 (operandsAt s n from))) × PutAll at (loadArguments ctx 0 0 (operandsAt s n from)) old newer

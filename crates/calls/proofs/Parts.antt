@@ -17,7 +17,6 @@ use Rattle.x86.specs.declared.enums.Operand.{Operand}
 use Rattle.x86.specs.declared.enums.BinOp.{BinOp}
 use Rattle.x86.specs.declared.enums.CtrlOp.{CtrlOp}
 use Rattle.x86.specs.declared.enums.Instruction.{Instruction}
-use Rattle.x86.specs.Records.{Record}
 use Rattle.x86.specs.Registers.{xmm, RAX}
 use Rattle.codegen.specs.Context.{Context}
 use Rattle.codegen.specs.Utils.{varSize, convertVar}
@@ -26,8 +25,6 @@ use Rattle.codegen.proofs.Results.{Yields, yields, any, bind, choose, never}
 use Rattle.utils.specs.Answers.{counted, placed}
 use Rattle.utils.specs.Parts.{PutAll}
 use Rattle.utils.proofs.Parts.{put-more, put-emitted}
-use Rattle.records.specs.Records.{encoded, countedRecords, placedRecords}
-use Rattle.records.proofs.Written.{counted-encoded, placed-encoded}
 use Rattle.calls.specs.Calls.{storeVar, callSymbol}
 
 -- ---- ranks
@@ -148,17 +145,11 @@ module _ (ctx : Context) (dest : Dest) (symbol : ℕ) (s : List ℕ) (n from at 
   pub loads-are : {x : ℕ} → r ≡ ok x → x ≡ n + 1
   loads-are f = loads-few ctx s n from (sym f ∙ c)
 
-  module _ {x : ℕ} (f : r ≡ ok x) {w : Result (List Record)} (e : w ≡ encoded (callSymbol ctx dest symbol)) {v : Result ℕ} (d : v ≡ countedRecords w) where
-    made : v ≡ counted (callSymbol ctx dest symbol)
-    made = d ∙ ap countedRecords e ∙ counted-encoded (callSymbol ctx dest symbol)
-
+  module _ {x : ℕ} (f : r ≡ ok x) {v : Result ℕ} (made : v ≡ counted (callSymbol ctx dest symbol)) where
     pub rest-few : {y : ℕ} → v ≡ ok y → y ≤ 2
     rest-few g = call-few ctx dest symbol (sym g ∙ made)
 
-    module _ {new : List ℕ} (p : new ≡ placedRecords (at + 64 * x) w t) where
-      is-placed : new ≡ placed (at + 64 * x) (callSymbol ctx dest symbol) t
-      is-placed = p ∙ ap (λ (q : Result (List Record)). placedRecords (at + 64 * x) q t) e ∙ placed-encoded (at + 64 * x) (callSymbol ctx dest symbol) t
-
+    module _ {new : List ℕ} (is-placed : new ≡ placed (at + 64 * x) (callSymbol ctx dest symbol) t) where
       pub store-stops : {m : ℕ} → v ≡ refused m
           → (refused m ≡ counted (generateCall ctx dest symbol (operandsAt s n from))) × PutAll at (generateCall ctx dest symbol (operandsAt s n from)) old new
       store-stops g =

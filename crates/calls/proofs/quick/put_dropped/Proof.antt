@@ -1,0 +1,28 @@
+use mathlib.Core.Path.{refl}
+use native.Mathlib.Omega.{arith}
+use Rattle.utils.proofs.Emitted.{none}
+use Rattle.calls.proofs.ByCells.{one-put}
+use borrow.Author.Needs.{needs}
+use Rattle.calls.proofs.quick.put_dropped.Statement.{statement}
+use Rattle.calls.proofs.quick.put_dropped.Tie as tie
+
+room-requires : tie.Need-room-requires
+room-requires c κs = search needs
+
+call-record-requires : tie.Need-call-record-requires
+call-record-requires c κs = search needs
+
+put-record-requires : tie.Need-put-record-requires
+put-record-requires c κs = search needs
+
+same-length : tie.Need-same-length
+same-length c = search needs
+
+returns : tie.Need-returns
+returns c = one-put (c .before .before .before .before .before .before .before .before .args .out .now) (c .before .before .before .before .before .before .before .before .args .at) _ (c .before .before .before .call-record .ensures) (c .before .before .put-record .ensures) (omega (arith, c .before .before .before .before .before .before .before .before .good, c .before .before .before .before .before .before .room .ensures, c .before .before .before .before .before .if1 .taken))
+
+returns-2 : tie.Need-returns-2
+returns-2 c = none (c .before .before .before .args .out .now) (c .before .before .before .args .at) 1 _ refl (omega (arith, c .before .before .before .good, c .before .room .ensures, c .if1 .left))
+
+pub put-dropped-spec : {M : Type 1} → statement M
+put-dropped-spec = tie.close (tie.spec room-requires call-record-requires put-record-requires same-length returns returns-2)
