@@ -30,7 +30,7 @@ use Rattle.codegen.specs.Arithmetic.{simpleOperation, twoLoads, dividing, divis
 use Rattle.codegen.specs.Generation.{generateInstr}
 use Rattle.utils.specs.Answers.{counted}
 use Rattle.layout.proofs.Passed.{apart}
-use Rattle.integers.specs.Integers.{isInteger, isIntegerVar, isIntegerOperand, binaryCount, quickCount, slotOf, operandOf, valueSize, valueUnsigned, copyList, simpleList, comparedList, shiftList, productList, unaryRecord, unaryList, branchList, binaryList, openList, quickList, valueWidth, isVar, castCount, castList, extended, widenedList, constantList, clearOrSign, divideBy, divisionList, zeroList, returnList}
+use Rattle.integers.specs.Integers.{isInteger, isIntegerVar, isIntegerOperand, areMoved, areIntegers, binaryCount, quickCount, slotOf, operandOf, valueSize, valueUnsigned, copyList, simpleList, comparedList, shiftList, productList, unaryRecord, unaryList, branchList, binaryList, openList, quickList, valueWidth, isVar, castCount, castList, extended, widenedList, constantList, clearOrSign, divideBy, divisionList, zeroList, returnList}
 
 -- both of two tests
 pub first : (a b : Bool) → (a && b) ≡ true → a ≡ true
@@ -507,20 +507,20 @@ binary-long offsets d l r (suc (suc (suc (suc (suc (suc (suc (suc (suc (suc (suc
 -- an instruction whose count is not 0
 module _ (ctx : Context) (labels : ℕ) (ret : IrType) (args : List IrOp) where
   open-made : (i : Instr) → (quickCount (length (ctx .offsets)) labels i ≡ 0 → ⊥) → generateInstr ctx labels ret i args ≡ ok (openList (ctx .offsets) (isFloat ret) i)
-  unfolding quickCount generateInstr generateBinary generateLabel generateJump generateJmpIfNot labelAt openList branchList
+  unfolding quickCount areMoved areIntegers generateInstr generateBinary generateLabel generateJump generateJmpIfNot labelAt openList branchList
   open-made (Instr.Copy d x) h =
-      let e = holds (isIntegerVar (length (ctx .offsets)) d && isIntegerOperand (length (ctx .offsets)) x) 2 h in
+      let e = holds (areMoved (length (ctx .offsets)) d x) 2 h in
       copy-made ctx d x (first _ _ e) (second (isIntegerVar (length (ctx .offsets)) d) _ e)
   open-made (Instr.Unary d op x) h =
-      let e = holds (isIntegerVar (length (ctx .offsets)) d && isIntegerOperand (length (ctx .offsets)) x) 3 h in
+      let e = holds (areMoved (length (ctx .offsets)) d x) 3 h in
       unary-made ctx d op x (first _ _ e) (second (isIntegerVar (length (ctx .offsets)) d) _ e)
   open-made (Instr.Binary d op l r) h =
-      let b = isIntegerVar (length (ctx .offsets)) d && (isIntegerOperand (length (ctx .offsets)) l && isIntegerOperand (length (ctx .offsets)) r) in
+      let b = areIntegers (length (ctx .offsets)) d l r in
       let e = holds b (binaryCount op) h in
       let f = second (isIntegerVar (length (ctx .offsets)) d) _ e in
       rw (integral _ d (first _ _ e)) (binary-made ctx d l r op (first _ _ e) (first _ _ f) (second (isIntegerOperand (length (ctx .offsets)) l) _ f) (nonzero b (binaryCount op) h))
   open-made (Instr.Cast d x) h =
-      let e = holds (isIntegerVar (length (ctx .offsets)) d && isIntegerOperand (length (ctx .offsets)) x) (castCount (d .ty .code) x) h in
+      let e = holds (areMoved (length (ctx .offsets)) d x) (castCount (d .ty .code) x) h in
       cast-made ctx d x (first _ _ e) (second (isIntegerVar (length (ctx .offsets)) d) _ e)
   open-made (Instr.Zero d) h = zero-made ctx d (holds (isIntegerVar (length (ctx .offsets)) d) 4 h)
   open-made (Instr.Call d symbol count) h = absurd (h refl)
@@ -535,10 +535,10 @@ module _ (ctx : Context) (labels : ℕ) (ret : IrType) (args : List IrOp) where
   -- its count is the list's length
   open-long : (i : Instr) → (quickCount (length (ctx .offsets)) labels i ≡ 0 → ⊥) → length (openList (ctx .offsets) (isFloat ret) i) ≡ quickCount (length (ctx .offsets)) labels i
   unfolding quickCount openList copyList unaryList branchList zeroList returnList
-  open-long (Instr.Copy d x) h = rw (holds (isIntegerVar (length (ctx .offsets)) d && isIntegerOperand (length (ctx .offsets)) x) 2 h)
-  open-long (Instr.Unary d op x) h = rw (holds (isIntegerVar (length (ctx .offsets)) d && isIntegerOperand (length (ctx .offsets)) x) 3 h)
-  open-long (Instr.Binary d op l r) h = rw (holds (isIntegerVar (length (ctx .offsets)) d && (isIntegerOperand (length (ctx .offsets)) l && isIntegerOperand (length (ctx .offsets)) r)) (binaryCount op) h) (binary-long (ctx .offsets) d l r op)
-  open-long (Instr.Cast d x) h = rw (holds (isIntegerVar (length (ctx .offsets)) d && isIntegerOperand (length (ctx .offsets)) x) (castCount (d .ty .code) x) h) (cast-long (ctx .offsets) d x)
+  open-long (Instr.Copy d x) h = rw (holds (areMoved (length (ctx .offsets)) d x) 2 h)
+  open-long (Instr.Unary d op x) h = rw (holds (areMoved (length (ctx .offsets)) d x) 3 h)
+  open-long (Instr.Binary d op l r) h = rw (holds (areIntegers (length (ctx .offsets)) d l r) (binaryCount op) h) (binary-long (ctx .offsets) d l r op)
+  open-long (Instr.Cast d x) h = rw (holds (areMoved (length (ctx .offsets)) d x) (castCount (d .ty .code) x) h) (cast-long (ctx .offsets) d x)
   open-long (Instr.Zero d) h = rw (holds (isIntegerVar (length (ctx .offsets)) d) 4 h)
   open-long (Instr.Call d symbol count) h = absurd (h refl)
   open-long (Instr.Label l) h = rw (holds (ltb l labels) 1 h)

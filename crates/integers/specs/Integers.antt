@@ -75,12 +75,19 @@ isVar IrOp.Null = false
 unfoldable pub castCount : ℕ → IrOp → ℕ
 castCount code x = cond (leb (elementWidth code) (valueWidth x) || isVar x) 2 3
 
+-- a dest and a source, or two sides, that are integers
+unfoldable pub areMoved : ℕ → VarId → IrOp → Bool
+areMoved n d x = isIntegerVar n d && isIntegerOperand n x
+
+unfoldable pub areIntegers : ℕ → VarId → IrOp → IrOp → Bool
+areIntegers n d l r = isIntegerVar n d && (isIntegerOperand n l && isIntegerOperand n r)
+
 -- the number of records with n slots and so many labels; 0 for what is left to the list makers
 unfoldable pub quickCount : ℕ → ℕ → Instr → ℕ
-quickCount n labels (Instr.Copy dest src) = cond (isIntegerVar n dest && isIntegerOperand n src) 2 0
-quickCount n labels (Instr.Unary dest op src) = cond (isIntegerVar n dest && isIntegerOperand n src) 3 0
-quickCount n labels (Instr.Binary dest op left right) = cond (isIntegerVar n dest && (isIntegerOperand n left && isIntegerOperand n right)) (binaryCount op) 0
-quickCount n labels (Instr.Cast dest src) = cond (isIntegerVar n dest && isIntegerOperand n src) (castCount (dest .ty .code) src) 0
+quickCount n labels (Instr.Copy dest src) = cond (areMoved n dest src) 2 0
+quickCount n labels (Instr.Unary dest op src) = cond (areMoved n dest src) 3 0
+quickCount n labels (Instr.Binary dest op left right) = cond (areIntegers n dest left right) (binaryCount op) 0
+quickCount n labels (Instr.Cast dest src) = cond (areMoved n dest src) (castCount (dest .ty .code) src) 0
 quickCount n labels (Instr.Zero dest) = cond (isIntegerVar n dest) 4 0
 quickCount n labels (Instr.Call dest symbol count) = 0
 quickCount n labels (Instr.Label l) = cond (ltb l labels) 1 0
@@ -246,6 +253,21 @@ openList offsets float Instr.Comment = []
 -- .. with so many labels; empty for what is left to the list makers
 unfoldable pub quickList : List ℕ → ℕ → Bool → Instr → List Instruction
 quickList offsets labels float i = cond (eqb (quickCount (length offsets) labels i) 0) [] (openList offsets float i)
+
+-- the list of a label, a jump or a branch to one of so many labels; empty for any other
+unfoldable pub jumpList : List ℕ → ℕ → Instr → List Instruction
+jumpList offsets labels (Instr.Copy dest src) = []
+jumpList offsets labels (Instr.Unary dest op src) = []
+jumpList offsets labels (Instr.Binary dest op left right) = []
+jumpList offsets labels (Instr.Cast dest src) = []
+jumpList offsets labels (Instr.Zero dest) = []
+jumpList offsets labels (Instr.Call dest symbol count) = []
+jumpList offsets labels (Instr.Label l) = cond (ltb l labels) (Instruction.Label l ∷ []) []
+jumpList offsets labels (Instr.Jump l) = cond (ltb l labels) (Instruction.Ctrl CtrlOp.Jmp (Operand.Label l) ∷ []) []
+jumpList offsets labels (Instr.JumpIfNot condition target) =
+    cond (isIntegerOperand (length offsets) condition && ltb target labels) (branchList offsets condition target) []
+jumpList offsets labels (Instr.Return op) = []
+jumpList offsets labels Instr.Comment = []
 
 -- ---- records by their cells
 

@@ -13,7 +13,7 @@ ghost use lib.ListN.{length};
 ghost use Rattle.cells.specs.Cells.{cells};
 ghost use Rattle.ir.specs.Types.{elementWidth};
 ghost use Rattle.ir.specs.Function.{varAt, operandAt, binaryAt, castAt, jumpIfNotAt, instrAt};
-ghost use Rattle.integers.specs.Integers.{isInteger, isIntegerVar, isIntegerOperand, binaryCount, quickCount, valueWidth, castCount};
+ghost use Rattle.integers.specs.Integers.{isInteger, isIntegerVar, isIntegerOperand, areMoved, areIntegers, binaryCount, quickCount, valueWidth, castCount};
 
 // Integers, Bool, Char, Byte and Address.
 pub fn is_integer(code: u64) -> bool
@@ -90,17 +90,32 @@ fn both(a: bool, b: bool) -> bool
     if a { b } else { false }
 }
 
-fn count_binary(offsets: &[u64], s: &[u8], k: usize, labels: u64) -> u64
+// Whether dest and left are integers.
+fn are_moved(offsets: &[u64], s: &[u8], k: usize) -> bool
     requires { ⌜ k + 13 ≤ cells (now s) ⌝ }
-    ensures { λ r. ⌜ r ≡ quickCount (length (now (offsets .entry))) labels (binaryAt (now (s .entry)) k) ⌝ }
+    ensures { λ r. ⌜ r ≡ areMoved (length (now (offsets .entry))) (varAt (now (s .entry)) (k + 2)) (operandAt (now (s .entry)) (k + 5)) ⌝ }
+{
+    let dest = is_integer_var(offsets, s, k + 2);
+    both(dest, is_integer_operand(offsets, s, k + 5))
+}
+
+// Whether dest, left and right are integers.
+fn are_integers(offsets: &[u64], s: &[u8], k: usize) -> bool
+    requires { ⌜ k + 13 ≤ cells (now s) ⌝ }
+    ensures { λ r. ⌜ r ≡ areIntegers (length (now (offsets .entry))) (varAt (now (s .entry)) (k + 2)) (operandAt (now (s .entry)) (k + 5)) (operandAt (now (s .entry)) (k + 9)) ⌝ }
 {
     let dest = is_integer_var(offsets, s, k + 2);
     let left = is_integer_operand(offsets, s, k + 5);
     let right = is_integer_operand(offsets, s, k + 9);
-    count_if(
-        both(dest, both(left, right)),
-        binary_count(cell_at(s, k + 1)),
-    )
+    both(dest, both(left, right))
+}
+
+fn count_binary(offsets: &[u64], s: &[u8], k: usize, labels: u64) -> u64
+    requires { ⌜ k + 13 ≤ cells (now s) ⌝ }
+    ensures { λ r. ⌜ r ≡ quickCount (length (now (offsets .entry))) labels (binaryAt (now (s .entry)) k) ⌝ }
+{
+    let holds = are_integers(offsets, s, k);
+    count_if(holds, binary_count(cell_at(s, k + 1)))
 }
 
 fn count_branch(offsets: &[u64], s: &[u8], k: usize, labels: u64) -> u64
@@ -109,15 +124,6 @@ fn count_branch(offsets: &[u64], s: &[u8], k: usize, labels: u64) -> u64
 {
     let condition = is_integer_operand(offsets, s, k + 5);
     count_if(both(condition, cell_at(s, k + 1) < labels), 3)
-}
-
-// A copy or a unary operation, of n records.
-fn count_moved(offsets: &[u64], s: &[u8], k: usize, n: u64) -> u64
-    requires { ⌜ k + 13 ≤ cells (now s) ⌝ }
-    ensures { λ r. ⌜ r ≡ cond (isIntegerVar (length (now (offsets .entry))) (varAt (now (s .entry)) (k + 2)) && isIntegerOperand (length (now (offsets .entry))) (operandAt (now (s .entry)) (k + 5))) n 0 ⌝ }
-{
-    let dest = is_integer_var(offsets, s, k + 2);
-    count_if(both(dest, is_integer_operand(offsets, s, k + 5)), n)
 }
 
 // The bytes of an integer by its code, and of an operand's value.
@@ -181,9 +187,8 @@ fn count_cast(offsets: &[u64], s: &[u8], k: usize, labels: u64) -> u64
     requires { ⌜ k + 13 ≤ cells (now s) ⌝ }
     ensures { λ r. ⌜ r ≡ quickCount (length (now (offsets .entry))) labels (castAt (now (s .entry)) k) ⌝ }
 {
-    let dest = is_integer_var(offsets, s, k + 2);
-    let src = is_integer_operand(offsets, s, k + 5);
-    count_if(both(dest, src), cast_count(s, k))
+    let holds = are_moved(offsets, s, k);
+    count_if(holds, cast_count(s, k))
 }
 
 // The number of records of the instruction at cell `k`; 0 where it is left to its list maker.
@@ -192,8 +197,8 @@ pub fn count_instr(offsets: &[u64], s: &[u8], k: usize, labels: u64) -> u64
     ensures { λ r. ⌜ r ≡ quickCount (length (now (offsets .entry))) labels (instrAt (now (s .entry)) k) ⌝ }
 {
     match cell_at(s, k) {
-        0 => count_moved(offsets, s, k, 2),
-        1 => count_moved(offsets, s, k, 3),
+        0 => count_if(are_moved(offsets, s, k), 2),
+        1 => count_if(are_moved(offsets, s, k), 3),
         2 => count_binary(offsets, s, k, labels),
         3 => count_cast(offsets, s, k, labels),
         4 => count_if(is_integer_var(offsets, s, k + 2), 4),

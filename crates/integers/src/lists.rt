@@ -1,4 +1,6 @@
 // The lists of instructions on integers, written from their cells into the lent slice.
+use crate::are_integers;
+use crate::are_moved;
 use crate::cellwise::clear_or_sign;
 use crate::cellwise::compare;
 use crate::cellwise::constant;
@@ -24,7 +26,8 @@ use crate::cellwise::unary_record;
 use crate::cellwise::value_size;
 use crate::cellwise::widened;
 use crate::cellwise::zero_test;
-use crate::count_instr;
+use crate::is_integer_operand;
+use crate::is_integer_var;
 use crate::value_width;
 use crate::var_width;
 use cells::cell_at;
@@ -44,7 +47,7 @@ ghost use Rattle.ir.specs.Function.{varAt, operandAt, instrAt, unaryOp};
 ghost use Rattle.records.specs.Records.{bytesOfRecords};
 ghost use Rattle.x86.specs.Registers.{gpr};
 ghost use Rattle.x86.specs.Records.{listBytes, recordBytes, cellsRecord};
-ghost use Rattle.integers.specs.Integers.{castList, widenedList, constantList, divisionList, zeroList, returnList, pairRecords, unaryList, copyList, simpleList, comparedList, branchList, binaryList, quickList};
+ghost use Rattle.integers.specs.Integers.{castList, widenedList, constantList, divisionList, zeroList, returnList, pairRecords, unaryList, copyList, simpleList, comparedList, branchList, binaryList, jumpList, quickList};
 
 pub fn put_copy(offsets: &[u64], s: &[u8], k: usize, out: &mut [u8], at: usize) -> u64
     requires { ⌜ k + 13 ≤ cells (now s) ⌝ }
@@ -273,20 +276,67 @@ pub fn put_quick(
     ensures { λ r. ⌜ r ≡ length (quickList (now (offsets .entry)) labels float (instrAt (now (s .entry)) k)) ⌝ }
     ensures { λ r. ⌜ now (out .exit) ≡ write (now (out .entry)) at (listBytes (quickList (now (offsets .entry)) labels float (instrAt (now (s .entry)) k))) ⌝ }
 {
-    let n = count_instr(offsets, s, k, labels);
-    if n == 0 {
+    match cell_at(s, k) {
+        0 => {
+            if are_moved(offsets, s, k) {
+                return put_copy(offsets, s, k, out, at);
+            }
+            0
+        }
+        1 => {
+            if are_moved(offsets, s, k) {
+                return put_unary(offsets, s, k, out, at);
+            }
+            0
+        }
+        2 => {
+            if are_integers(offsets, s, k) {
+                return put_binary(offsets, s, k, out, at);
+            }
+            0
+        }
+        3 => {
+            if are_moved(offsets, s, k) {
+                return put_cast(offsets, s, k, out, at);
+            }
+            0
+        }
+        4 => {
+            if is_integer_var(offsets, s, k + 2) {
+                return put_zero(offsets, s, k, out, at);
+            }
+            0
+        }
+        9 => {
+            if is_integer_operand(offsets, s, k + 5) {
+                return put_return(offsets, s, k, float, out, at);
+            }
+            0
+        }
+        _ => put_jump(offsets, s, k, labels, out, at),
+    }
+}
+
+// A label, a jump or a branch.
+fn put_jump(offsets: &[u64], s: &[u8], k: usize, labels: u64, out: &mut [u8], at: usize) -> u64
+    requires { ⌜ k + 13 ≤ cells (now s) ⌝ }
+    requires { ⌜ at + 320 ≤ length (now out) ⌝ }
+    ensures { λ r. ⌜ r ≡ length (jumpList (now (offsets .entry)) labels (instrAt (now (s .entry)) k)) ⌝ }
+    ensures { λ r. ⌜ now (out .exit) ≡ write (now (out .entry)) at (listBytes (jumpList (now (offsets .entry)) labels (instrAt (now (s .entry)) k))) ⌝ }
+{
+    let label = cell_at(s, k + 1);
+    if labels <= label {
         return 0;
     }
     match cell_at(s, k) {
-        0 => put_copy(offsets, s, k, out, at),
-        1 => put_unary(offsets, s, k, out, at),
-        2 => put_binary(offsets, s, k, out, at),
-        3 => put_cast(offsets, s, k, out, at),
-        4 => put_zero(offsets, s, k, out, at),
-        6 => put_label(9, 0, cell_at(s, k + 1), out, at),
-        7 => put_label(6, 0, cell_at(s, k + 1), out, at),
-        8 => put_branch(offsets, s, k, cell_at(s, k + 1), out, at),
-        9 => put_return(offsets, s, k, float, out, at),
+        6 => put_label(9, 0, label, out, at),
+        7 => put_label(6, 0, label, out, at),
+        8 => {
+            if is_integer_operand(offsets, s, k + 5) {
+                return put_branch(offsets, s, k, label, out, at);
+            }
+            0
+        }
         _ => 0,
     }
 }

@@ -3,29 +3,8 @@ use borrow.Author.Needs.{needs}
 use Rattle.integers.proofs.count_binary.Statement.{statement}
 use Rattle.integers.proofs.count_binary.Tie as tie
 
-add-is-integer-var : tie.Need-add-is-integer-var
-add-is-integer-var c = search needs
-
-is-integer-var-requires : tie.Need-is-integer-var-requires
-is-integer-var-requires c κs = search needs
-
-add-is-integer-operand : tie.Need-add-is-integer-operand
-add-is-integer-operand c = search needs
-
-is-integer-operand-requires : tie.Need-is-integer-operand-requires
-is-integer-operand-requires c κs = search needs
-
-add-is-integer-operand-2 : tie.Need-add-is-integer-operand-2
-add-is-integer-operand-2 c = search needs
-
-is-integer-operand-requires-2 : tie.Need-is-integer-operand-requires-2
-is-integer-operand-requires-2 c κs = search needs
-
-both-requires : tie.Need-both-requires
-both-requires c κs = search needs
-
-both-requires-2 : tie.Need-both-requires-2
-both-requires-2 c κs = search needs
+are-integers-requires : tie.Need-are-integers-requires
+are-integers-requires c κs = search needs
 
 add-cell-at : tie.Need-add-cell-at
 add-cell-at c = search needs
@@ -41,7 +20,7 @@ count-if-requires c κs = search needs
 
 returns : tie.Need-returns
 unfolding quickCount
-returns c = simp (c .count-if .ensures, c .before .binary-count .ensures, c .before .before .cell-at .ensures, c .before .before .before .both2 .ensures, c .before .before .before .before .both .ensures, c .before .before .before .before .before .is-integer-operand2 .ensures, c .before .before .before .before .before .before .is-integer-operand .ensures, c .before .before .before .before .before .before .before .is-integer-var .ensures)
+returns c = simp (c .count-if .ensures, c .before .binary-count .ensures, c .before .before .cell-at .ensures, c .before .before .before .are-integers .ensures)
 
 pub count-binary-spec : {M : Type 1} → statement M
-count-binary-spec = tie.close (tie.spec add-is-integer-var is-integer-var-requires add-is-integer-operand is-integer-operand-requires add-is-integer-operand-2 is-integer-operand-requires-2 both-requires both-requires-2 add-cell-at cell-at-requires binary-count-requires count-if-requires returns)
+count-binary-spec = tie.close (tie.spec are-integers-requires add-cell-at cell-at-requires binary-count-requires count-if-requires returns)
