@@ -123,10 +123,10 @@ quick-loaded ctx reg (IrOp.Address v) h = apart (sym h)
 quick-loaded ctx reg (IrOp.DataAddress k) h = rw (h)
 quick-loaded ctx reg IrOp.Null h = refl
 
-pub quick-argument : (ctx : Context) (regs : List Register) (k : ℕ) (x : IrOp) {reg : Register} → isQuick ctx x ≡ true → ltb k (length regs) ≡ true
-    → reg ≡ getD regs k RAX → loadArgument ctx regs k x ≡ ok (quickLoad (ctx .offsets) reg x)
+pub quick-argument : (ctx : Context) (regs : List Register) (k : ℕ) (x : IrOp) → isQuick ctx x ≡ true → ltb k (length regs) ≡ true
+    → loadArgument ctx regs k x ≡ ok (quickLoad (ctx .offsets) (getD regs k RAX) x)
 unfolding loadArgument
-quick-argument ctx regs k x {reg} q h e = rw (h, e) (quick-loaded ctx (getD regs k RAX) x q)
+quick-argument ctx regs k x q h = rw (h) (quick-loaded ctx (getD regs k RAX) x q)
 
 -- ---- the store of a result
 

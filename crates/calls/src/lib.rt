@@ -121,7 +121,7 @@ fn put_argument(
 {
     if is_quick(tables, offsets, sheet, cell) {
         if k < registers(float) {
-            put_load(offsets, sheet, cell, param_register(float, k), out, at);
+            put_load(offsets, sheet, cell, float, k, out, at);
             return Made::Records(1);
         }
     }

@@ -1,5 +1,6 @@
 // The records of a call's arguments and of its result, by cells and without a list: of those that no look-up refuses.
 use cells::cell_at;
+use frame::param_register;
 use integers::cellwise::cells_record;
 use integers::cellwise::constant_size;
 use integers::cellwise::load_cells;
@@ -18,12 +19,14 @@ ghost use mathlib.Core.Path.{_≡_};
 ghost use mathlib.Core.List.{[], _∷_};
 ghost use Prim.Native.Nat.{_+_, _≤_};
 ghost use lib.Dec.{ltb};
-ghost use lib.ListN.{length};
+ghost use lib.ListN.{length, getD};
 ghost use Rattle.cells.specs.Cells.{cells};
 ghost use Rattle.ir.specs.Function.{tablesOf, operandAt};
+ghost use Rattle.x86.specs.Registers.{RAX};
 ghost use Rattle.x86.specs.Records.{recordOf, cellsRecord};
 ghost use Rattle.x86.specs.Says.{recordSays};
 ghost use Rattle.codegen.specs.Instructions.{floating};
+ghost use Rattle.codegen.specs.Frame.{registersOf};
 ghost use Rattle.utils.specs.Answers.{lent, emitted};
 ghost use Rattle.calls.specs.Calls.{callOf, isQuick, quickLoad, loadedCells, isPlain, plainStore};
 
@@ -108,12 +111,21 @@ fn argument(offsets: &[u64], s: &[u8], k: usize, reg: Register) -> Record
     }
 }
 
-// .. written, if the slice has room for it.
-pub fn put_load(offsets: &[u64], s: &[u8], k: usize, reg: Register, out: &mut [u8], at: usize)
+// .. into the register of its rank, written if the slice has room for it.
+pub fn put_load(
+    offsets: &[u64],
+    s: &[u8],
+    k: usize,
+    float: bool,
+    rank: u64,
+    out: &mut [u8],
+    at: usize,
+)
     requires { ⌜ k + 4 ≤ cells (now s) ⌝ }
-    ensures { λ _. ⌜ now (out .exit) ≡ emitted at (quickLoad (now (offsets .entry)) reg (operandAt (now (s .entry)) k) ∷ []) (now (out .entry)) ⌝ }
+    ensures { λ _. ⌜ now (out .exit) ≡ emitted at (quickLoad (now (offsets .entry)) (getD (registersOf float) rank RAX) (operandAt (now (s .entry)) k) ∷ []) (now (out .entry)) ⌝ }
 {
     if 1 <= room(out.len(), at) {
+        let reg = param_register(float, rank);
         put_record(out, at, argument(offsets, s, k, reg));
     }
 }

@@ -14,9 +14,6 @@ is-quick-requires c κs = search needs
 registers-requires : tie.Need-registers-requires
 registers-requires c κs = search needs
 
-param-register-requires : tie.Need-param-register-requires
-param-register-requires c κs = search needs
-
 put-load-requires : tie.Need-put-load-requires
 put-load-requires c κs = search needs
 
@@ -25,10 +22,10 @@ same-length c = search needs
 
 returns : tie.Need-returns
 returns c =
-    let a = c .before .before .before .before .before .before .before .before .before .before .before .before .before .args in
+    let a = c .before .before .before .before .before .before .before .before .before .before .before .before .args in
     rw
     (quick-argument (lent (a .tables .now) (a .offsets .now)) (registersOf (a .float)) (a .k) (operandAt (a .sheet .now) (a .cell))
-    (sym (c .before .before .before .before .before .before .before .before .is-quick .ensures) ∙ c .before .before .before .before .before .before .before .if1 .taken) (has-rank (c .before .before .before .before .before .before .registers .ensures) (c .before .before .before .before .before .if2 .taken)) (c .before .before .before .before .param-register .ensures))
+    (sym (c .before .before .before .before .before .before .before .is-quick .ensures) ∙ c .before .before .before .before .before .before .if1 .taken) (has-rank (c .before .before .before .before .before .registers .ensures) (c .before .before .before .before .if2 .taken)))
     (refl, c .before .before .put-load .ensures)
 
 operand-at-requires : tie.Need-operand-at-requires
@@ -44,4 +41,4 @@ returns-2 : tie.Need-returns-2
 returns-2 c = rw (← c .before .before .before .before .operand-at .ensures) (c .before .before .put-looked-up .ensures)
 
 pub put-argument-spec : {M : Type 1} → statement M
-put-argument-spec = tie.close (tie.spec is-quick-requires registers-requires param-register-requires put-load-requires same-length returns operand-at-requires put-looked-up-requires same-length-2 returns-2)
+put-argument-spec = tie.close (tie.spec is-quick-requires registers-requires put-load-requires same-length returns operand-at-requires put-looked-up-requires same-length-2 returns-2)
