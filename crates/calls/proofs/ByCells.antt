@@ -18,7 +18,7 @@ use Rattle.x86.specs.declared.enums.Size.{Size}
 use Rattle.x86.specs.declared.enums.Operand.{Operand}
 use Rattle.x86.specs.declared.enums.Instruction.{Instruction}
 use Rattle.x86.specs.Registers.{registerOf, number, rbpPlus, ripFloat, RAX}
-use Rattle.x86.specs.Records.{Record, cellsRecord, recordOf, recordBytes, listBytes, tagOf, valueOf}
+use Rattle.x86.specs.Records.{Record, cellsRecord, recordOf, recordBytes, listBytes, tagOf, valueOf, sizeCode}
 use Rattle.codegen.specs.Context.{Context, displacement, stringAt, floatAt}
 use Rattle.codegen.specs.Utils.{sizeFrom, varSize, convertVar, convertOperand, loadFrom, loadString, loadValue, loadOperand}
 use Rattle.codegen.specs.Instructions.{move, floating, loadArgument}
@@ -65,31 +65,58 @@ rest-quick ctx s k = go (cellAt s k)
 
 -- ---- loads
 
+-- the bytes of a type, and of a constant
+pub one-element : (code : ℕ) → elementWidth code ≡ sizeCode (elementSize (elementWidth code))
+unfolding elementWidth
+one-element zero = refl
+one-element (suc zero) = refl
+one-element (suc (suc zero)) = refl
+one-element (suc (suc (suc zero))) = refl
+one-element (suc (suc (suc (suc zero)))) = refl
+one-element (suc (suc (suc (suc (suc zero))))) = refl
+one-element (suc (suc (suc (suc (suc (suc zero)))))) = refl
+one-element (suc (suc (suc (suc (suc (suc (suc zero))))))) = refl
+one-element (suc (suc (suc (suc (suc (suc (suc (suc zero)))))))) = refl
+one-element (suc (suc (suc (suc (suc (suc (suc (suc (suc zero))))))))) = refl
+one-element (suc (suc (suc (suc (suc (suc (suc (suc (suc (suc zero)))))))))) = refl
+one-element (suc (suc (suc (suc (suc (suc (suc (suc (suc (suc (suc zero))))))))))) = refl
+one-element (suc (suc (suc (suc (suc (suc (suc (suc (suc (suc (suc (suc zero)))))))))))) = refl
+one-element (suc (suc (suc (suc (suc (suc (suc (suc (suc (suc (suc (suc (suc n))))))))))))) = refl
+
+constant-bytes : (short : Bool) → cond short 4 8 ≡ sizeCode (cond short Size.U32 Size.U64)
+constant-bytes true = refl
+constant-bytes false = refl
+
 -- a load's record, by its register and its operand's tag and value
-from-record : (reg : Register) (x : Operand) (size : Size) → loadedCells reg (tagOf x) (valueOf x) size ≡ recordOf (loadFrom reg x size)
-unfolding loadedCells loadFrom recordOf
-from-record reg x size = go (reg .class) (reg .index)
+from-record : (reg : Register) (x : Operand) (size : Size) → loadedCells reg (tagOf x) (valueOf x) (sizeCode size) ≡ recordOf (loadFrom reg x size)
+unfolding loadedCells loadFrom recordOf loadCells
+from-record reg x size = go (reg .class) (reg .index) size
   where
-    go : (c : RegisterClass) (k : ℕ) → loadedCells (registerOf c k) (tagOf x) (valueOf x) size ≡ recordOf (loadFrom (registerOf c k) x size)
-    go RegisterClass.Gpr k = load-record k x size
-    go RegisterClass.Xmm k = refl
+    go : (c : RegisterClass) (k : ℕ) (z : Size) → loadedCells (registerOf c k) (tagOf x) (valueOf x) (sizeCode z) ≡ recordOf (loadFrom (registerOf c k) x z)
+    go RegisterClass.Gpr k Size.NoSize = load-record k x Size.NoSize
+    go RegisterClass.Gpr k Size.U8 = load-record k x Size.U8
+    go RegisterClass.Gpr k Size.U16 = load-record k x Size.U16
+    go RegisterClass.Gpr k Size.U32 = load-record k x Size.U32
+    go RegisterClass.Gpr k Size.U64 = load-record k x Size.U64
+    go RegisterClass.Xmm k z = refl
 
 module _ (offsets s : List ℕ) (k : ℕ) (reg : Register) where
-  pub var-loaded : cellAt s k ≡ 0
-      → loadedCells reg 5 (minus (getD offsets (cellAt s (k + 1)) 0)) (elfSize (varAt s (k + 1) .ty)) ≡ recordOf (quickLoad offsets reg (operandAt s k))
+  pub var-loaded : {v : VarId} → cellAt s k ≡ 0 → v ≡ varAt s (k + 1)
+      → loadedCells reg 5 (minus (getD offsets (v .id) 0)) (sizeCode (elfSize (v .ty))) ≡ recordOf (quickLoad offsets reg (operandAt s k))
   unfolding operandAt quickLoad slotOf
-  var-loaded e = rw (e) (from-record reg (rbpPlus (minus (getD offsets (cellAt s (k + 1)) 0))) (elfSize (varAt s (k + 1) .ty)))
+  var-loaded {v} e f = rw (e, f) (from-record reg (rbpPlus (minus (getD offsets (varAt s (k + 1) .id) 0))) (elfSize (varAt s (k + 1) .ty)))
 
-  pub int-loaded : cellAt s k ≡ 1
-      → loadedCells reg 2 (cellAt s (k + 1)) (cond (eqb (cellAt s (k + 2)) 1) Size.U32 Size.U64) ≡ recordOf (quickLoad offsets reg (operandAt s k))
+  pub int-loaded : cellAt s k ≡ 1 → loadedCells reg 2 (cellAt s (k + 1)) (cond (eqb (cellAt s (k + 2)) 1) 4 8) ≡ recordOf (quickLoad offsets reg (operandAt s k))
   unfolding operandAt quickLoad
-  int-loaded e = rw (e) (from-record reg (Operand.Imm (cellAt s (k + 1))) (cond (eqb (cellAt s (k + 2)) 1) Size.U32 Size.U64))
+  int-loaded e =
+      rw (e, constant-bytes (eqb (cellAt s (k + 2)) 1))
+      (from-record reg (Operand.Imm (cellAt s (k + 1))) (cond (eqb (cellAt s (k + 2)) 1) Size.U32 Size.U64))
 
-  pub float-loaded : cellAt s k ≡ 2 → loadedCells reg 7 (cellAt s (k + 1)) Size.U64 ≡ recordOf (quickLoad offsets reg (operandAt s k))
+  pub float-loaded : cellAt s k ≡ 2 → loadedCells reg 7 (cellAt s (k + 1)) 8 ≡ recordOf (quickLoad offsets reg (operandAt s k))
   unfolding operandAt quickLoad
   float-loaded e = rw (e) (from-record reg (ripFloat (cellAt s (k + 1))) Size.U64)
 
-  pub bool-loaded : cellAt s k ≡ 3 → loadedCells reg 2 (cond (eqb (cellAt s (k + 1)) 1) 1 0) Size.U8 ≡ recordOf (quickLoad offsets reg (operandAt s k))
+  pub bool-loaded : cellAt s k ≡ 3 → loadedCells reg 2 (cond (eqb (cellAt s (k + 1)) 1) 1 0) 1 ≡ recordOf (quickLoad offsets reg (operandAt s k))
   unfolding operandAt quickLoad
   bool-loaded e = rw (e) (from-record reg (Operand.Imm (cond (eqb (cellAt s (k + 1)) 1) 1 0)) Size.U8)
 
@@ -98,12 +125,12 @@ module _ (offsets s : List ℕ) (k : ℕ) (reg : Register) where
   string-loaded e = rw (e)
 
   pub rest-loaded : (cellAt s k ≡ 0 → ⊥) → (cellAt s k ≡ 1 → ⊥) → (cellAt s k ≡ 2 → ⊥) → (cellAt s k ≡ 3 → ⊥) → (cellAt s k ≡ 5 → ⊥)
-      → loadedCells reg 2 0 Size.NoSize ≡ recordOf (quickLoad offsets reg (operandAt s k))
+      → loadedCells reg 2 0 0 ≡ recordOf (quickLoad offsets reg (operandAt s k))
   unfolding operandAt quickLoad
   rest-loaded = go (cellAt s k)
     where
       go : (c : ℕ) → (c ≡ 0 → ⊥) → (c ≡ 1 → ⊥) → (c ≡ 2 → ⊥) → (c ≡ 3 → ⊥) → (c ≡ 5 → ⊥)
-          → loadedCells reg 2 0 Size.NoSize ≡ recordOf (quickLoad offsets reg (kinds c s k))
+          → loadedCells reg 2 0 0 ≡ recordOf (quickLoad offsets reg (kinds c s k))
       go zero h0 h1 h2 h3 h5 = absurd (h0 refl)
       go (suc zero) h0 h1 h2 h3 h5 = absurd (h1 refl)
       go (suc (suc zero)) h0 h1 h2 h3 h5 = absurd (h2 refl)

@@ -2,7 +2,7 @@
 use Prim.Native.Nat.{ℕ}
 use mathlib.Core.Bool.{Bool, true, false, cond, _&&_}
 use mathlib.Core.List.{List, [], _∷_}
-use lib.Dec.{ltb}
+use lib.Dec.{eqb, ltb}
 use lib.ListN.{length}
 use Rattle.ir.specs.declared.VarId.{VarId}
 use Rattle.ir.specs.declared.Dest.{Dest}
@@ -15,11 +15,11 @@ use Rattle.x86.specs.declared.enums.CtrlOp.{CtrlOp}
 use Rattle.x86.specs.declared.enums.Operand.{Operand}
 use Rattle.x86.specs.declared.enums.Instruction.{Instruction}
 use Rattle.x86.specs.Registers.{xmm, RAX, number, isXmm, ripString, ripFloat}
-use Rattle.x86.specs.Records.{Record, cellsRecord, sizeCode}
+use Rattle.x86.specs.Records.{Record, cellsRecord}
 use Rattle.codegen.specs.Context.{Context}
 use Rattle.codegen.specs.Utils.{varSize, convertVar, loadFrom}
 use Rattle.codegen.specs.Instructions.{move, storeResult}
-use Rattle.integers.specs.Integers.{slotOf, loadCells}
+use Rattle.integers.specs.Integers.{slotOf}
 
 -- the number of floats, in RAX
 abbrev pub countFloats : ℕ → List Instruction
@@ -66,9 +66,12 @@ quickLoad offsets reg (IrOp.Address v) = loadFrom reg (Operand.Imm 0) Size.NoSiz
 quickLoad offsets reg (IrOp.DataAddress k) = Instruction.Lea (ripString k) reg Size.NoSize
 quickLoad offsets reg IrOp.Null = loadFrom reg (Operand.Imm 0) Size.NoSize
 
--- the record of a load of an operand of a tag and a value
-unfoldable pub loadedCells : Register → ℕ → ℕ → Size → Record
-loadedCells reg tag value size = cond (isXmm reg) (cellsRecord 0 11 1 (number reg) tag value (sizeCode size) 0) (loadCells (number reg) tag value size)
+-- the record of a load of so many bytes of an operand of a tag and a value
+unfoldable pub loadedCells : Register → ℕ → ℕ → ℕ → Record
+loadedCells reg tag value n =
+    cond (isXmm reg) (cellsRecord 0 11 1 (number reg) tag value n 0)
+    (cond (eqb n 1) (cond (eqb tag 2) (cellsRecord 0 0 1 (number reg) tag value 4 0) (cellsRecord 7 2 1 (number reg) tag value 8 1))
+    (cellsRecord 0 0 1 (number reg) tag value n 0))
 
 -- a variable that is no array, with a slot among n, of a type with a width
 unfoldable pub isPlain : ℕ → VarId → Bool

@@ -2,16 +2,15 @@
 use cells::cell_at;
 use frame::param_register;
 use integers::cellwise::cells_record;
-use integers::cellwise::constant_size;
-use integers::cellwise::load_cells;
-use integers::cellwise::size_at;
 use integers::cellwise::slot;
 use integers::cellwise::truth;
+use integers::short_width;
+use integers::width;
+use ir::Type;
 use ir::VarId;
 use ir::read::var_at;
 use records::put_two;
 use utils::room;
-use x86::enums::Size;
 use x86::record::Record;
 use x86::record::put_record;
 use x86::register::Register;
@@ -21,9 +20,10 @@ ghost use Prim.Native.Nat.{_+_, _≤_};
 ghost use lib.Dec.{ltb};
 ghost use lib.ListN.{length, getD};
 ghost use Rattle.cells.specs.Cells.{cells};
+ghost use Rattle.ir.specs.Types.{elfSize};
 ghost use Rattle.ir.specs.Function.{tablesOf, operandAt};
 ghost use Rattle.x86.specs.Registers.{RAX};
-ghost use Rattle.x86.specs.Records.{recordOf, cellsRecord};
+ghost use Rattle.x86.specs.Records.{recordOf, cellsRecord, sizeCode};
 ghost use Rattle.x86.specs.Says.{recordSays};
 ghost use Rattle.codegen.specs.Instructions.{floating};
 ghost use Rattle.codegen.specs.Frame.{registersOf};
@@ -80,14 +80,31 @@ pub fn is_quick(tables: &[u8], offsets: &[u64], s: &[u8], k: usize) -> bool
     }
 }
 
-// A register's load of an operand of a tag and a value: LoadF for an XMM register.
-fn loaded_cells(reg: Register, tag: u64, value: u64, size: Size) -> Record
-    ensures { λ r. ⌜ recordSays r ≡ loadedCells reg tag value size ⌝ }
+// The bytes of a move that touches a variable of a type: an array has an address's.
+fn type_bytes(ty: Type) -> u64
+    ensures { λ r. ⌜ r ≡ sizeCode (elfSize ty) ⌝ }
 {
-    if reg.is_xmm() {
-        return cells_record(0, 11, reg.number(), tag, value, size.code(), 0);
+    if ty.count == 0xffff_ffff_ffff_ffff {
+        return width(ty.code);
     }
-    load_cells(reg.number(), tag, value, size)
+    8
+}
+
+// A register's load of so many bytes of an operand of a tag and a value: LoadF for an XMM register; one byte by Movzx, or by a four-byte Mov of a constant.
+fn loaded_cells(reg: Register, tag: u64, value: u64, bytes: u64) -> Record
+    ensures { λ r. ⌜ recordSays r ≡ loadedCells reg tag value bytes ⌝ }
+{
+    let number = reg.number();
+    if reg.is_xmm() {
+        return cells_record(0, 11, number, tag, value, bytes, 0);
+    }
+    if bytes == 1 {
+        if tag == 2 {
+            return cells_record(0, 0, number, tag, value, 4, 0);
+        }
+        return cells_record(7, 2, number, tag, value, 8, 1);
+    }
+    cells_record(0, 0, number, tag, value, bytes, 0)
 }
 
 // The argument at cell `k` into a register, where no look-up refuses it.
@@ -97,17 +114,18 @@ fn argument(offsets: &[u64], s: &[u8], k: usize, reg: Register) -> Record
 {
     match cell_at(s, k) {
         0 => {
-            let size = size_at(s, k + 1);
-            loaded_cells(reg, 5, slot(offsets, cell_at(s, k + 1)), size)
+            let v = var_at(s, k + 1);
+            let bytes = type_bytes(v.ty);
+            loaded_cells(reg, 5, slot(offsets, v.id), bytes)
         }
         1 => {
-            let size = constant_size(cell_at(s, k + 2));
-            loaded_cells(reg, 2, cell_at(s, k + 1), size)
+            let bytes = short_width(cell_at(s, k + 2));
+            loaded_cells(reg, 2, cell_at(s, k + 1), bytes)
         }
-        2 => loaded_cells(reg, 7, cell_at(s, k + 1), Size::U64),
-        3 => loaded_cells(reg, 2, truth(cell_at(s, k + 1)), Size::U8),
+        2 => loaded_cells(reg, 7, cell_at(s, k + 1), 8),
+        3 => loaded_cells(reg, 2, truth(cell_at(s, k + 1)), 1),
         5 => cells_record(8, 0, reg.number(), 6, cell_at(s, k + 1), 0, 0),
-        _ => loaded_cells(reg, 2, 0, Size::NoSize),
+        _ => loaded_cells(reg, 2, 0, 0),
     }
 }
 
@@ -180,11 +198,11 @@ fn store_record(offsets: &[u64], v: VarId) -> Record
     ensures { λ r. ⌜ recordSays r ≡ recordOf (plainStore (now (offsets .entry)) v) ⌝ }
 {
     let ty = v.ty;
-    let size = ty.to_elf_size();
+    let bytes = type_bytes(ty);
     if ty.is_float() {
-        return stored_cells(12, slot(offsets, v.id), 16, size.code());
+        return stored_cells(12, slot(offsets, v.id), 16, bytes);
     }
-    stored_cells(0, slot(offsets, v.id), 0, size.code())
+    stored_cells(0, slot(offsets, v.id), 0, bytes)
 }
 
 // The call, and the store of its result into such a variable, if the slice has room for both.

@@ -87,7 +87,7 @@ pub fn truth(n: u64) -> u64
 }
 
 // A load into a general register: one byte by Movzx, or by a four-byte Mov of a constant; the rest by Mov.
-pub fn load_cells(reg: u64, tag: u64, value: u64, size: Size) -> Record
+fn load_cells(reg: u64, tag: u64, value: u64, size: Size) -> Record
     ensures { λ r. ⌜ recordSays r ≡ loadCells reg tag value size ⌝ }
 {
     let code = size.code();
@@ -197,7 +197,7 @@ pub fn value_size(s: &[u8], k: usize) -> Size
     }
 }
 
-pub fn constant_size(short: u64) -> Size
+fn constant_size(short: u64) -> Size
     ensures { λ r. ⌜ r ≡ cond (eqb short 1) Size.U32 Size.U64 ⌝ }
 {
     if short == 1 { Size::U32 } else { Size::U64 }

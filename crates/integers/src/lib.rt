@@ -16,7 +16,7 @@ ghost use Rattle.ir.specs.Function.{varAt, operandAt, binaryAt, castAt, jumpIfN
 ghost use Rattle.integers.specs.Integers.{isInteger, isIntegerVar, isIntegerOperand, areMoved, areIntegers, binaryCount, quickCount, valueWidth, castCount};
 
 // Integers, Bool, Char, Byte and Address.
-pub fn is_integer(code: u64) -> bool
+fn is_integer(code: u64) -> bool
     ensures { λ r. ⌜ r ≡ isInteger code ⌝ }
 {
     match code {
@@ -127,7 +127,7 @@ fn count_branch(offsets: &[u64], s: &[u8], k: usize, labels: u64) -> u64
 }
 
 // The bytes of an integer by its code, and of an operand's value.
-fn width(code: u64) -> u64
+pub fn width(code: u64) -> u64
     ensures { λ r. ⌜ r ≡ elementWidth code ⌝ }
 {
     match code {
@@ -166,7 +166,7 @@ fn value_width(s: &[u8], k: usize) -> u64
     }
 }
 
-fn short_width(short: u64) -> u64
+pub fn short_width(short: u64) -> u64
     ensures { λ r. ⌜ r ≡ cond (eqb short 1) 4 8 ⌝ }
 {
     if short == 1 { 4 } else { 8 }
