@@ -97,22 +97,30 @@ unsigned-constant s k = go (cellAt s k)
     go (suc (suc (suc (suc (suc zero))))) h0 h1 = refl
     go (suc (suc (suc (suc (suc (suc n)))))) h0 h1 = refl
 
--- the size of one byte is the one of code 1
-pub one-byte : (size : Size) → sizeCode size ≡ 1 → isOneByte size ≡ true
-one-byte Size.NoSize e = absurd (omega (arith, e))
-one-byte Size.U8 e = refl
-one-byte Size.U16 e = absurd (omega (arith, e))
-one-byte Size.U32 e = absurd (omega (arith, e))
-one-byte Size.U64 e = absurd (omega (arith, e))
+-- a load with every cell chosen
+pub load-chosen : (reg tag value : ℕ) (size : Size) →
+    cellsRecord (cond (cond (eqb tag 2) false (eqb (sizeCode size) 1)) 7 0) (cond (cond (eqb tag 2) false (eqb (sizeCode size) 1)) 2 0) 1 reg tag value
+    (cond (eqb (sizeCode size) 1) (cond (eqb tag 2) 4 8) (sizeCode size)) (cond (cond (eqb tag 2) false (eqb (sizeCode size) 1)) 1 0)
+    ≡ loadCells reg tag value size
+unfolding loadCells
+load-chosen reg tag value size = go (eqb tag 2) size
+  where
+    go : (b : Bool) (z : Size) →
+        cellsRecord (cond (cond b false (eqb (sizeCode z) 1)) 7 0) (cond (cond b false (eqb (sizeCode z) 1)) 2 0) 1 reg tag value
+        (cond (eqb (sizeCode z) 1) (cond b 4 8) (sizeCode z)) (cond (cond b false (eqb (sizeCode z) 1)) 1 0)
+        ≡ cond (isOneByte z) (cond b (cellsRecord 0 0 1 reg tag value 4 0) (cellsRecord 7 2 1 reg tag value 8 1)) (cellsRecord 0 0 1 reg tag value (sizeCode z) 0)
+    go true Size.NoSize = refl
+    go true Size.U8 = refl
+    go true Size.U16 = refl
+    go true Size.U32 = refl
+    go true Size.U64 = refl
+    go false Size.NoSize = refl
+    go false Size.U8 = refl
+    go false Size.U16 = refl
+    go false Size.U32 = refl
+    go false Size.U64 = refl
 
-pub more-bytes : (size : Size) → (sizeCode size ≡ 1 → ⊥) → isOneByte size ≡ false
-more-bytes Size.NoSize h = refl
-more-bytes Size.U8 h = absurd (h refl)
-more-bytes Size.U16 h = refl
-more-bytes Size.U32 h = refl
-more-bytes Size.U64 h = refl
-
--- .. and the size of four bytes the one of code 4
+-- the size of four bytes is the one of code 4
 pub four-bytes : (size : Size) → sizeCode size ≡ 4 → signInto size ≡ UnaryOp.Cdq
 four-bytes Size.NoSize e = absurd (omega (arith, e))
 four-bytes Size.U8 e = absurd (omega (arith, e))

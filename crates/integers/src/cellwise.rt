@@ -1,4 +1,5 @@
 // The records of instructions on integers, by their cells.
+use crate::count_if;
 use cells::cell_at;
 use ir::read::type_at;
 use ir::read::var_at;
@@ -7,7 +8,7 @@ use x86::enums::ConditionCode;
 use x86::enums::Size;
 use x86::record::Record;
 ghost use mathlib.Core.Path.{_≡_};
-ghost use mathlib.Core.Bool.{cond};
+ghost use mathlib.Core.Bool.{false, cond};
 ghost use lib.Dec.{eqb};
 ghost use Prim.Native.Nat.{_+_, _≤_};
 ghost use lib.ListN.{getD};
@@ -86,18 +87,45 @@ pub fn truth(n: u64) -> u64
     if n == 1 { 1 } else { 0 }
 }
 
-// A load into a general register: one byte by Movzx, or by a four-byte Mov of a constant; the rest by Mov.
+// Whether a byte is loaded by Movzx: no constant is.
+fn is_widened(code: u64, tag: u64) -> bool
+    ensures { λ r. ⌜ r ≡ cond (eqb tag 2) false (eqb code 1) ⌝ }
+{
+    if tag == 2 { false } else { code == 1 }
+}
+
+// A constant of one byte is loaded by four.
+fn byte_size(tag: u64) -> u64
+    ensures { λ r. ⌜ r ≡ cond (eqb tag 2) 4 8 ⌝ }
+{
+    if tag == 2 { 4 } else { 8 }
+}
+
+fn load_size(code: u64, tag: u64) -> u64
+    ensures { λ r. ⌜ r ≡ cond (eqb code 1) (cond (eqb tag 2) 4 8) code ⌝ }
+{
+    let byte = byte_size(tag);
+    if code == 1 { byte } else { code }
+}
+
+// A load into a general register: one byte by Movzx, or by a four-byte Mov of a constant; the rest by Mov. Every cell is chosen, with no jump by the size.
 fn load_cells(reg: u64, tag: u64, value: u64, size: Size) -> Record
     ensures { λ r. ⌜ recordSays r ≡ loadCells reg tag value size ⌝ }
 {
     let code = size.code();
-    if code == 1 {
-        if tag == 2 {
-            return cells_record(0, 0, reg, tag, value, 4, 0);
-        }
-        return cells_record(7, 2, reg, tag, value, 8, 1);
-    }
-    cells_record(0, 0, reg, tag, value, code, 0)
+    let widened = is_widened(code, tag);
+    let form = count_if(widened, 7);
+    let operation = count_if(widened, 2);
+    let source = count_if(widened, 1);
+    cells_record(
+        form,
+        operation,
+        reg,
+        tag,
+        value,
+        load_size(code, tag),
+        source,
+    )
 }
 
 pub fn cells_record(
