@@ -10,7 +10,7 @@ use lib.ListN.{length, getD}
 use Rattle.cells.specs.Cells.{cellAt, minus, write}
 use Rattle.ir.specs.declared.VarId.{VarId}
 use Rattle.ir.specs.declared.Operand.{Operand as IrOp}
-use Rattle.ir.specs.Types.{Result, ok, refused, _>>=_, isScalar, isFloat, elementWidth, elementSize, elfSize, bytes, typeSize, operandSize}
+use Rattle.ir.specs.Types.{ok, isScalar, elementWidth, elementSize, elfSize, bytes, typeSize, operandSize}
 use Rattle.ir.specs.Function.{varAt, varOperand, intOperand, floatOperand, boolOperand, addressOperand, dataOperand, operandAt}
 use Rattle.x86.specs.declared.register.RegisterClass.{RegisterClass}
 use Rattle.x86.specs.declared.register.Register.{Register}
@@ -22,7 +22,6 @@ use Rattle.x86.specs.Records.{Record, cellsRecord, recordOf, recordBytes, listB
 use Rattle.codegen.specs.Context.{Context, displacement, stringAt, floatAt}
 use Rattle.codegen.specs.Utils.{sizeFrom, varSize, convertVar, convertOperand, loadFrom, loadString, loadValue, loadOperand}
 use Rattle.codegen.specs.Instructions.{move, floating, loadArgument}
-use Rattle.codegen.specs.Frame.{registersOf}
 use Rattle.utils.specs.Answers.{emitted}
 use Rattle.utils.proofs.Emitted.{Emitted, all, first}
 use Rattle.records.specs.Records.{bytesOfRecords}
@@ -165,7 +164,7 @@ both-second : (a b : Bool) → (a && b) ≡ true → b ≡ true
 both-second true b h = h
 both-second false b h = apart (sym h)
 
-pub record Wide (code : ℕ) : Type 0 where
+record Wide (code : ℕ) : Type 0 where
   pub some : eqb (elementWidth code) 0 ≡ false
   pub size : sizeFrom (elementWidth code) ≡ ok (elementSize (elementWidth code))
 

@@ -1,6 +1,5 @@
 use mathlib.Core.Path.{refl}
 use Rattle.x86.specs.Records.{recordOf}
-use borrow.Author.Needs.{needs}
 use Rattle.calls.proofs.quick.call_record.Statement.{statement}
 use Rattle.calls.proofs.quick.call_record.Tie as tie
 

@@ -1,6 +1,5 @@
 use borrow.Author.Tests.{lt-ltb, le-ltb, eq-eqb, ne-eqb}
 use Rattle.calls.proofs.ByCells.{plain-code, plain-no-code, plain-array, plain-no-slot}
-use borrow.Author.Needs.{needs}
 use Rattle.calls.proofs.quick.is_plain.Statement.{statement}
 use Rattle.calls.proofs.quick.is_plain.Tie as tie
 
