@@ -54,7 +54,7 @@ fn negated(n: u64) -> u64
 }
 
 // An operand's tag: a slot, a constant, or none.
-pub fn operand_tag(offsets: &[u64], s: &[u8], k: usize) -> u64
+fn operand_tag(offsets: &[u64], s: &[u8], k: usize) -> u64
     requires { ⌜ k + 4 ≤ cells (now s) ⌝ }
     ensures { λ r. ⌜ r ≡ tagOf (operandOf (now (offsets .entry)) (operandAt (now (s .entry)) k)) ⌝ }
 {
@@ -68,7 +68,7 @@ pub fn operand_tag(offsets: &[u64], s: &[u8], k: usize) -> u64
 }
 
 // An operand's value: a slot's displacement, or the constant.
-pub fn operand_value(offsets: &[u64], s: &[u8], k: usize) -> u64
+fn operand_value(offsets: &[u64], s: &[u8], k: usize) -> u64
     requires { ⌜ k + 4 ≤ cells (now s) ⌝ }
     ensures { λ r. ⌜ r ≡ valueOf (operandOf (now (offsets .entry)) (operandAt (now (s .entry)) k)) ⌝ }
 {
@@ -439,7 +439,7 @@ pub fn rep_stosb() -> Record
 }
 
 // The size of an operand where none is given: its own, and none for Null.
-pub fn operand_size(s: &[u8], k: usize) -> Size
+fn operand_size(s: &[u8], k: usize) -> Size
     requires { ⌜ k + 4 ≤ cells (now s) ⌝ }
     ensures { λ r. ⌜ r ≡ operandSize (operandAt (now (s .entry)) k) ⌝ }
 {

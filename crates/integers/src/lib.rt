@@ -46,7 +46,7 @@ pub fn is_integer_var(offsets: &[u64], s: &[u8], k: usize) -> bool
 }
 
 // Whether the operand at cell `k` is such a variable, or a constant that is no float and no address.
-pub fn is_integer_operand(offsets: &[u64], s: &[u8], k: usize) -> bool
+fn is_integer_operand(offsets: &[u64], s: &[u8], k: usize) -> bool
     requires { ⌜ k + 4 ≤ cells (now s) ⌝ }
     ensures { λ r. ⌜ r ≡ isIntegerOperand (length (now (offsets .entry))) (operandAt (now (s .entry)) k) ⌝ }
 {
