@@ -28,13 +28,19 @@ struct Times {
     plain: f64,
 }
 
-/// A table in Markdown for sheets of both sorts.
+/// A table in Markdown for each sort of sheets.
 pub fn table() -> String {
     let mut text = String::new();
-    for (name, templates) in [("plain", plain_templates()), ("floats and calls", all_templates())] {
+    let sorts = [
+        ("plain", plain_templates(), usize::MAX),
+        ("floats and calls", all_templates(), usize::MAX),
+        ("plain, the same hundred instructions again and again", plain_templates(), 100),
+        ("floats and calls, the same hundred instructions again and again", all_templates(), 100),
+    ];
+    for (name, templates, period) in sorts {
         write!(text, "\n{name}:\n\n{HEAD}").expect("text grows");
         for length in LENGTHS {
-            let sheet = sheet(&templates, length);
+            let sheet = sheet(&templates, length, period);
             let (times, records) = measure(&sheet);
             text.push_str(&row(length, records, &times));
         }
@@ -142,11 +148,12 @@ fn all_templates() -> Vec<Instr> {
     all
 }
 
-/// `length` instructions, drawn from the templates; each label stands once.
-fn sheet(templates: &[Instr], length: usize) -> Sheet {
+/// `length` instructions, drawn from the templates, and again in the same order behind `period` of them; each label stands once.
+fn sheet(templates: &[Instr], length: usize, period: usize) -> Sheet {
     let mut rng = Rng::new(9);
+    let drawn: Vec<usize> = (0..period.min(length)).map(|_| rng.below(templates.len())).collect();
     let mut body: Vec<Instr> = (1..length)
-        .map(|_| templates[rng.below(templates.len())].clone())
+        .map(|k| templates[drawn[(k - 1) % drawn.len()]].clone())
         .map(|instr| if matches!(instr, Instr::Label(_)) { Instr::Comment } else { instr })
         .collect();
     body.push(Instr::Label(0));
