@@ -1,7 +1,8 @@
 """Writes the fuzzer's finds as cases without answers, for the oracle's fixed list: collect.py FOLDER OUT.
 
-FOLDER has what `target/fuzz/fuzzer -merge=1 FOLDER target/fuzz/seeds target/fuzz/corpus` keeps beyond the seeds. OUT is oracle/src/cases/fuzzed.bin:
-a count, then tables, sheet and the number of record bytes of each, in the compact form of vectors/README.md. Cut-off inputs are read as the driver reads them.
+FOLDER has what `target/fuzz/fuzzer -merge=1 -use_counters=0 COPY target/fuzz/corpus` adds to a copy of target/fuzz/seeds. OUT is oracle/src/cases/fuzzed.bin:
+a count, then tables, sheet and the number of record bytes of each, in the compact form of vectors/README.md; the cases that it has are kept. Cut-off inputs are
+read as the driver reads them.
 """
 import pathlib
 import sys
@@ -39,14 +40,19 @@ class Input:
         return cells + bytes((self.byte() or 0) for _ in range(torn))
 
 
+def case(data):
+    return data.slice(), data.slice(), data.number() % MOST_ROOM
+
+
 def main(folder, out):
-    cases = set()
+    old = Input(pathlib.Path(out).read_bytes())
+    cases = {case(old) for _ in range(old.number())}
+    before = len(cases)
     for file in sorted(pathlib.Path(folder).iterdir()):
-        data = Input(file.read_bytes())
-        cases.add((data.slice(), data.slice(), data.number() % MOST_ROOM))
+        cases.add(case(Input(file.read_bytes())))
     body = b"".join(slice_of(t) + slice_of(s) + varint(room) for t, s, room in sorted(cases))
     pathlib.Path(out).write_bytes(varint(len(cases)) + body)
-    print(f"fuzzed: {len(cases)} cases written")
+    print(f"fuzzed: {len(cases)} cases written, {len(cases) - before} of them new")
 
 
 if __name__ == "__main__":
