@@ -1,6 +1,7 @@
 -- The numbers that no arm of a `match` on a number names.
-use Prim.Native.Nat.{ℕ, zero, suc}
+use Prim.Native.Nat.{ℕ, zero, suc, _*_, _/_, _%_, _^_, _≤_, _<_}
 use mathlib.Core.Path.{_≡_, refl}
+use native.Mathlib.Omega.{arith}
 use borrow.Author.Tests.{ne-eqb}
 use Rattle.x86.specs.declared.enums.Size.{Size}
 use Rattle.ir.specs.Types.{elementWidth, elementSize}
@@ -11,22 +12,62 @@ use Rattle.ir.specs.declared.Operand.{Operand}
 use Rattle.ir.specs.declared.Instr.{Instr}
 use Rattle.ir.specs.declared.UnaryOp.{UnaryOp}
 
-pub no-width : (k : ℕ) → (k ≡ 1 → ⊥) → (k ≡ 2 → ⊥) → (k ≡ 3 → ⊥) → (k ≡ 4 → ⊥) → (k ≡ 5 → ⊥) → (k ≡ 6 → ⊥) → (k ≡ 7 → ⊥) → (k ≡ 8 → ⊥) → (k ≡ 9 → ⊥) → (k ≡ 10 → ⊥) → 0 ≡ elementWidth k
+-- the codes from 16 on have no width
+pub wide-code : (code : ℕ) → 16 ≤ code → 0 ≡ elementWidth code
 unfolding elementWidth
-no-width zero h1 h2 h3 h4 h5 h6 h7 h8 h9 h10 = refl
-no-width (suc zero) h1 h2 h3 h4 h5 h6 h7 h8 h9 h10 = absurd (h1 refl)
-no-width (suc (suc zero)) h1 h2 h3 h4 h5 h6 h7 h8 h9 h10 = absurd (h2 refl)
-no-width (suc (suc (suc zero))) h1 h2 h3 h4 h5 h6 h7 h8 h9 h10 = absurd (h3 refl)
-no-width (suc (suc (suc (suc zero)))) h1 h2 h3 h4 h5 h6 h7 h8 h9 h10 = absurd (h4 refl)
-no-width (suc (suc (suc (suc (suc zero))))) h1 h2 h3 h4 h5 h6 h7 h8 h9 h10 = absurd (h5 refl)
-no-width (suc (suc (suc (suc (suc (suc zero)))))) h1 h2 h3 h4 h5 h6 h7 h8 h9 h10 = absurd (h6 refl)
-no-width (suc (suc (suc (suc (suc (suc (suc zero))))))) h1 h2 h3 h4 h5 h6 h7 h8 h9 h10 = absurd (h7 refl)
-no-width (suc (suc (suc (suc (suc (suc (suc (suc zero)))))))) h1 h2 h3 h4 h5 h6 h7 h8 h9 h10 = absurd (h8 refl)
-no-width (suc (suc (suc (suc (suc (suc (suc (suc (suc zero))))))))) h1 h2 h3 h4 h5 h6 h7 h8 h9 h10 = absurd (h9 refl)
-no-width (suc (suc (suc (suc (suc (suc (suc (suc (suc (suc zero)))))))))) h1 h2 h3 h4 h5 h6 h7 h8 h9 h10 = absurd (h10 refl)
-no-width (suc (suc (suc (suc (suc (suc (suc (suc (suc (suc (suc zero))))))))))) h1 h2 h3 h4 h5 h6 h7 h8 h9 h10 = refl
-no-width (suc (suc (suc (suc (suc (suc (suc (suc (suc (suc (suc (suc zero)))))))))))) h1 h2 h3 h4 h5 h6 h7 h8 h9 h10 = refl
-no-width (suc (suc (suc (suc (suc (suc (suc (suc (suc (suc (suc (suc (suc k))))))))))))) h1 h2 h3 h4 h5 h6 h7 h8 h9 h10 = refl
+wide-code zero h = absurd (omega (arith, h))
+wide-code (suc zero) h = absurd (omega (arith, h))
+wide-code (suc (suc zero)) h = absurd (omega (arith, h))
+wide-code (suc (suc (suc zero))) h = absurd (omega (arith, h))
+wide-code (suc (suc (suc (suc zero)))) h = absurd (omega (arith, h))
+wide-code (suc (suc (suc (suc (suc zero))))) h = absurd (omega (arith, h))
+wide-code (suc (suc (suc (suc (suc (suc zero)))))) h = absurd (omega (arith, h))
+wide-code (suc (suc (suc (suc (suc (suc (suc zero))))))) h = absurd (omega (arith, h))
+wide-code (suc (suc (suc (suc (suc (suc (suc (suc zero)))))))) h = absurd (omega (arith, h))
+wide-code (suc (suc (suc (suc (suc (suc (suc (suc (suc zero))))))))) h = absurd (omega (arith, h))
+wide-code (suc (suc (suc (suc (suc (suc (suc (suc (suc (suc zero)))))))))) h = absurd (omega (arith, h))
+wide-code (suc (suc (suc (suc (suc (suc (suc (suc (suc (suc (suc zero))))))))))) h = absurd (omega (arith, h))
+wide-code (suc (suc (suc (suc (suc (suc (suc (suc (suc (suc (suc (suc zero)))))))))))) h = absurd (omega (arith, h))
+wide-code (suc (suc (suc (suc (suc (suc (suc (suc (suc (suc (suc (suc (suc n))))))))))))) h = refl
+
+-- the others by four bits each
+pub packed-width : (code : ℕ) → code < 16 → 0x811_1484_4880 / 2 ^ (4 * code) % 16 ≡ elementWidth code
+unfolding elementWidth
+packed-width zero h = refl
+packed-width (suc zero) h = refl
+packed-width (suc (suc zero)) h = refl
+packed-width (suc (suc (suc zero))) h = refl
+packed-width (suc (suc (suc (suc zero)))) h = refl
+packed-width (suc (suc (suc (suc (suc zero))))) h = refl
+packed-width (suc (suc (suc (suc (suc (suc zero)))))) h = refl
+packed-width (suc (suc (suc (suc (suc (suc (suc zero))))))) h = refl
+packed-width (suc (suc (suc (suc (suc (suc (suc (suc zero)))))))) h = refl
+packed-width (suc (suc (suc (suc (suc (suc (suc (suc (suc zero))))))))) h = refl
+packed-width (suc (suc (suc (suc (suc (suc (suc (suc (suc (suc zero)))))))))) h = refl
+packed-width (suc (suc (suc (suc (suc (suc (suc (suc (suc (suc (suc zero))))))))))) h = refl
+packed-width (suc (suc (suc (suc (suc (suc (suc (suc (suc (suc (suc (suc zero)))))))))))) h = refl
+packed-width (suc (suc (suc (suc (suc (suc (suc (suc (suc (suc (suc (suc (suc zero))))))))))))) h = refl
+packed-width (suc (suc (suc (suc (suc (suc (suc (suc (suc (suc (suc (suc (suc (suc zero)))))))))))))) h = refl
+packed-width (suc (suc (suc (suc (suc (suc (suc (suc (suc (suc (suc (suc (suc (suc (suc zero))))))))))))))) h = refl
+packed-width (suc (suc (suc (suc (suc (suc (suc (suc (suc (suc (suc (suc (suc (suc (suc (suc n)))))))))))))))) h = absurd (omega (arith, h))
+
+-- each is at most eight
+pub few-bytes : (code : ℕ) → elementWidth code ≤ 8
+unfolding elementWidth
+few-bytes zero = omega arith
+few-bytes (suc zero) = omega arith
+few-bytes (suc (suc zero)) = omega arith
+few-bytes (suc (suc (suc zero))) = omega arith
+few-bytes (suc (suc (suc (suc zero)))) = omega arith
+few-bytes (suc (suc (suc (suc (suc zero))))) = omega arith
+few-bytes (suc (suc (suc (suc (suc (suc zero)))))) = omega arith
+few-bytes (suc (suc (suc (suc (suc (suc (suc zero))))))) = omega arith
+few-bytes (suc (suc (suc (suc (suc (suc (suc (suc zero)))))))) = omega arith
+few-bytes (suc (suc (suc (suc (suc (suc (suc (suc (suc zero))))))))) = omega arith
+few-bytes (suc (suc (suc (suc (suc (suc (suc (suc (suc (suc zero)))))))))) = omega arith
+few-bytes (suc (suc (suc (suc (suc (suc (suc (suc (suc (suc (suc zero))))))))))) = omega arith
+few-bytes (suc (suc (suc (suc (suc (suc (suc (suc (suc (suc (suc (suc zero)))))))))))) = omega arith
+few-bytes (suc (suc (suc (suc (suc (suc (suc (suc (suc (suc (suc (suc (suc n))))))))))))) = omega arith
 
 pub no-size : (w : ℕ) → (w ≡ 1 → ⊥) → (w ≡ 4 → ⊥) → (w ≡ 8 → ⊥) → Size.NoSize ≡ elementSize w
 no-size w h1 h4 h8 = rw (ne-eqb w 1 h1, ne-eqb w 4 h4, ne-eqb w 8 h8)

@@ -13,23 +13,17 @@ pub enum Number {
     Refused(u64),
 }
 
-// The bytes of an element, by its code; 0 for what has no width.
-fn element_width(code: u64) -> u64
+// The bytes of an element, by its code: four bits of a number for each.
+const WIDTHS: u64 = 0x811_1484_4880;
+
+// 0 for what has no width.
+pub fn element_width(code: u64) -> u64
     ensures { λ r. ⌜ (r ≡ elementWidth code) × (r ≤ 8) ⌝ }
 {
-    match code {
-        1 => 8,
-        2 => 8,
-        3 => 4,
-        4 => 4,
-        5 => 8,
-        6 => 4,
-        7 => 1,
-        8 => 1,
-        9 => 1,
-        10 => 8,
-        _ => 0,
+    if 16 <= code {
+        return 0;
     }
+    (WIDTHS >> (4 * code)) % 16
 }
 
 impl Type {
