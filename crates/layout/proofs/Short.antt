@@ -14,7 +14,7 @@ use Rattle.layout.specs.declared.Checked.{Checked}
 use Rattle.layout.specs.Layout.{bindChecked, cursor, countCheck, zerosCheck, fieldsCheck, typeCheck, varCheck, firstField, flagField, operandCheck, operationMost, hasDest, hasLeft, destCheck, sideCheck, bodyCheck, instrCheck}
 use Rattle.layout.specs.Laid.{accepts, isLaid}
 use Rattle.layout.proofs.Passed.{apart}
-use Rattle.layout.proofs.Laws.{type-right, dest-right, side-right, instr-right}
+use Rattle.layout.proofs.Laws.{type-right, var-right, dest-right, side-right, instr-right}
 
 -- ---- what follows a cell that is there, or a part
 
@@ -224,23 +224,43 @@ missing s k h = go (isLaid s k) refl
     go false p = refl
     go true p = let l = laid-right s (cursor k) p .1 in absurd (omega arith)
 
--- a type that is right: where it ends, and that its cells are there
-pub type-there : (s : List ℕ) (c : Cursor) → accepts (typeCheck s c) ≡ true → (typeCheck s c ≡ Checked.Behind (cursor (c .at + 2))) × (c .at + 2 ≤ cells s)
-type-there s c = go (typeCheck s c) refl
-  where
-    go : (x : Checked) → typeCheck s c ≡ x → accepts x ≡ true → (x ≡ Checked.Behind (cursor (c .at + 2))) × (c .at + 2 ≤ cells s)
-    go (Checked.Refused n j) e t = apart (sym t)
-    go (Checked.Behind d) e t =
-        let r = type-right s c e in
-        (ap (λ (j : ℕ). Checked.Behind (cursor j)) (omega (arith, r .0)), omega (arith, r .2 .there))
+-- ---- a part of so many cells that is right: where it ends, and that its cells are there
 
--- where a cell is missing no type is right
+module _ (s : List ℕ) (check : Cursor → Checked) (w : ℕ) (right : (c d : Cursor) → check c ≡ Checked.Behind d → (d .at ≡ c .at + w) × (c .at + w ≤ cells s)) where
+  part-there : (c : Cursor) → accepts (check c) ≡ true → (check c ≡ Checked.Behind (cursor (c .at + w))) × (c .at + w ≤ cells s)
+  part-there c = go (check c) refl
+    where
+      go : (x : Checked) → check c ≡ x → accepts x ≡ true → (x ≡ Checked.Behind (cursor (c .at + w))) × (c .at + w ≤ cells s)
+      go (Checked.Refused n j) e t = apart (sym t)
+      go (Checked.Behind d) e t =
+          let r = right c d e in
+          (ap (λ (j : ℕ). Checked.Behind (cursor j)) (r .0), r .1)
+
+  -- where a cell is missing it is not right
+  part-missing : (k : ℕ) → cells s < k + w → false ≡ accepts (check (cursor k))
+  part-missing k h = go (accepts (check (cursor k))) refl
+    where
+      go : (b : Bool) → accepts (check (cursor k)) ≡ b → false ≡ b
+      go false p = refl
+      go true p = let l = part-there (cursor k) p .1 in absurd (omega arith)
+
+type-ends : (s : List ℕ) (c d : Cursor) → typeCheck s c ≡ Checked.Behind d → (d .at ≡ c .at + 2) × (c .at + 2 ≤ cells s)
+type-ends s c d e = let r = type-right s c e in (r .0, r .2 .there)
+
+pub type-there : (s : List ℕ) (c : Cursor) → accepts (typeCheck s c) ≡ true → (typeCheck s c ≡ Checked.Behind (cursor (c .at + 2))) × (c .at + 2 ≤ cells s)
+type-there s = part-there s (typeCheck s) 2 (type-ends s)
+
 pub type-missing : (s : List ℕ) (k : ℕ) → cells s < k + 2 → false ≡ accepts (typeCheck s (cursor k))
-type-missing s k h = go (accepts (typeCheck s (cursor k))) refl
-  where
-    go : (b : Bool) → accepts (typeCheck s (cursor k)) ≡ b → false ≡ b
-    go false p = refl
-    go true p = let l = type-there s (cursor k) p .1 in absurd (omega arith)
+type-missing s = part-missing s (typeCheck s) 2 (type-ends s)
+
+var-ends : (s : List ℕ) (c d : Cursor) → varCheck s c ≡ Checked.Behind d → (d .at ≡ c .at + 3) × (c .at + 3 ≤ cells s)
+var-ends s c d e = let r = var-right s c e in (r .0, r .1 .there)
+
+pub var-there : (s : List ℕ) (c : Cursor) → accepts (varCheck s c) ≡ true → (varCheck s c ≡ Checked.Behind (cursor (c .at + 3))) × (c .at + 3 ≤ cells s)
+var-there s = part-there s (varCheck s) 3 (var-ends s)
+
+pub var-missing : (s : List ℕ) (k : ℕ) → cells s < k + 3 → false ≡ accepts (varCheck s (cursor k))
+var-missing s = part-missing s (varCheck s) 3 (var-ends s)
 
 -- a check that accepts nothing refuses
 pub refuses : (x : Checked) (f : Cursor → Checked) → accepts x ≡ false → bindChecked x f ≡ x

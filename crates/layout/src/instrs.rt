@@ -101,7 +101,7 @@ fn body_check(s: &[u8], kind: u64, c: Cursor) -> Checked
 }
 
 // One instruction with its arguments.
-fn instr_check(s: &[u8], c: Cursor) -> Checked
+pub fn instr_check(s: &[u8], c: Cursor) -> Checked
     ensures { λ r. ⌜ r ≡ instrCheck (now (s .entry)) c ⌝ }
 {
     match c.within(s, 0, 10) {

@@ -1,10 +1,14 @@
-// Whether the cells of an instruction that is no call are right: a short way over cells that are all there, without cursors.
+// A short way over cells that are all there, without cursors: types, variables, and instructions that are no call.
+use crate::Checked;
 use crate::instrs::has_dest;
 use crate::instrs::has_left;
 use crate::instrs::operation_most;
 use crate::parts::LARGEST;
 use crate::parts::MOST_BYTES;
 use crate::parts::first_field;
+use crate::parts::type_check;
+use crate::parts::var_check;
+use cells::Cursor;
 use cells::cell_at;
 use ir::Type;
 ghost use mathlib.Core.Path.{_≡_};
@@ -33,7 +37,7 @@ fn type_laid(s: &[u8], k: usize) -> bool
 }
 
 // A type, with both its cells there.
-pub fn is_type(s: &[u8], k: usize) -> bool
+fn is_type(s: &[u8], k: usize) -> bool
     ensures { λ r. ⌜ r ≡ accepts (typeCheck (now (s .entry)) (cursor k)) ⌝ }
 {
     let all = s.len() / 8;
@@ -43,6 +47,16 @@ pub fn is_type(s: &[u8], k: usize) -> bool
         }
     }
     false
+}
+
+// .. and the cursor behind it.
+pub fn next_type(s: &[u8], c: Cursor) -> Checked
+    ensures { λ r. ⌜ r ≡ typeCheck (now (s .entry)) c ⌝ }
+{
+    if is_type(s, c.at) {
+        return Checked::Behind(Cursor { at: c.at + 2 });
+    }
+    type_check(s, c)
 }
 
 // An id that is not negative, and a type.
@@ -56,8 +70,31 @@ fn var_laid(s: &[u8], k: usize) -> bool
     type_laid(s, k + 1)
 }
 
+// A variable, with all its cells there.
+fn is_var(s: &[u8], k: usize) -> bool
+    ensures { λ r. ⌜ r ≡ accepts (varCheck (now (s .entry)) (cursor k)) ⌝ }
+{
+    let all = s.len() / 8;
+    if 3 <= all {
+        if k <= all - 3 {
+            return var_laid(s, k);
+        }
+    }
+    false
+}
+
+// .. and the cursor behind it.
+pub fn next_var(s: &[u8], c: Cursor) -> Checked
+    ensures { λ r. ⌜ r ≡ varCheck (now (s .entry)) c ⌝ }
+{
+    if is_var(s, c.at) {
+        return Checked::Behind(Cursor { at: c.at + 3 });
+    }
+    var_check(s, c)
+}
+
 // Three cells, each at most its own bound. All are read before one is tested, so that unused ones are tested as one.
-fn fields_laid(s: &[u8], k: usize, x: u64, y: u64, z: u64) -> bool
+pub fn fields_laid(s: &[u8], k: usize, x: u64, y: u64, z: u64) -> bool
     requires { ⌜ k + 3 ≤ cells (now s) ⌝ }
     ensures { λ r. ⌜ r ≡ accepts (fieldsCheck (now (s .entry)) (cursor k) x y z) ⌝ }
 {
@@ -74,7 +111,7 @@ fn fields_laid(s: &[u8], k: usize, x: u64, y: u64, z: u64) -> bool
 }
 
 // Four unused cells.
-fn unused_laid(s: &[u8], k: usize) -> bool
+pub fn unused_laid(s: &[u8], k: usize) -> bool
     requires { ⌜ k + 4 ≤ cells (now s) ⌝ }
     ensures { λ r. ⌜ r ≡ accepts (zerosCheck (now (s .entry)) 4 (cursor k)) ⌝ }
 {

@@ -1,9 +1,8 @@
-// The layout of tables and sheet: the first wrong cell in reading order, with refusal 1, 2 or 3. Every cell is read once, but for a variable's
-// type, which is read again for its bytes, and an instruction that the short way leaves, a call or a wrong one, which is read from its start.
+// The layout of tables and sheet: the first wrong cell in reading order, with refusal 1, 2 or 3. What the short way over its cells leaves, a call or a
+// wrong part, is read again from its start.
 pub mod instrs;
-mod laid;
+pub mod laid;
 pub mod parts;
-pub mod sheet;
 pub mod tables;
 
 use cells::Cursor;

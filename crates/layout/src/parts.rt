@@ -1,11 +1,12 @@
 // Cells, types, variables and operands of a sheet.
 use crate::Checked;
 use crate::Limited;
+use crate::laid::next_var;
 use cells::Cell;
 use cells::Cursor;
 use ir::Type;
 ghost use mathlib.Core.Path.{_≡_};
-ghost use Rattle.layout.specs.Layout.{endCheck, limited, countCheck, zerosCheck, fieldsCheck, typeCheck, returnCheck, varCheck, firstField, flagField, operandCheck, operandsCheck};
+ghost use Rattle.layout.specs.Layout.{endCheck, limited, countCheck, zerosCheck, fieldsCheck, typeCheck, returnCheck, varCheck, firstField, flagField, operandCheck, operandsCheck, varsCheck};
 
 // The largest number that is not negative.
 pub const LARGEST: u64 = 0x7fff_ffff_ffff_ffff;
@@ -181,6 +182,25 @@ pub fn operands_check(s: &[u8], n: u64, c: Cursor) -> Checked
     let mut here = c;
     while 0 < left {
         match operand_check(s, here) {
+            Checked::Behind(next) => {
+                here = next;
+            }
+            Checked::Refused(number, k) => {
+                return Checked::Refused(number, k);
+            }
+        }
+        left -= 1;
+    }
+    Checked::Behind(here)
+}
+
+pub fn vars_check(s: &[u8], n: u64, c: Cursor) -> Checked
+    ensures { λ r. ⌜ r ≡ varsCheck (now (s .entry)) n c ⌝ }
+{
+    let mut left = n;
+    let mut here = c;
+    while 0 < left {
+        match next_var(s, here) {
             Checked::Behind(next) => {
                 here = next;
             }

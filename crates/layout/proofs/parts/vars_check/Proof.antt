@@ -3,8 +3,8 @@ use native.Mathlib.Omega.{arith}
 use mathlib.Core.Path.{refl}
 use Rattle.layout.specs.Layout.{varsCheck}
 use Rattle.layout.proofs.Turns.{Left, goes-on, stops, ends}
-use Rattle.layout.proofs.sheet.vars_check.Statement.{statement}
-use Rattle.layout.proofs.sheet.vars_check.Tie as tie
+use Rattle.layout.proofs.parts.vars_check.Statement.{statement}
+use Rattle.layout.proofs.parts.vars_check.Tie as tie
 
 abbrev Inv-loop : tie.InvT-loop
 Inv-loop s n left₀ here₀ left here = Left (varsCheck s) (varsCheck s n here₀) left here
@@ -15,8 +15,8 @@ abbrev μ-loop : tie.MeasureT-loop
 loop-holds : tie.Need-loop-holds Inv-loop μ-loop
 loop-holds c = record { is = refl }
 
-var-check-requires : tie.Need-var-check-requires Inv-loop μ-loop
-var-check-requires c κs = search needs
+next-var-requires : tie.Need-next-var-requires Inv-loop μ-loop
+next-var-requires c κs = search needs
 
 enum-known-next : tie.Need-enum-known-next Inv-loop μ-loop
 enum-known-next c = search needs
@@ -28,7 +28,7 @@ returns : tie.Need-returns Inv-loop μ-loop
 unfolding varsCheck
 returns c =
     let p = c .before .before .before in
-    stops _ _ (p .before .before .loop .inv) (p .before .loop-test .taken) (λ m. simp (← p .var-check .ensures, c .before .number .given .1))
+    stops _ _ (p .before .before .loop .inv) (p .before .loop-test .taken) (λ m. simp (← p .next-var .ensures, c .before .number .given .1))
 
 sub-left : tie.Need-sub-left Inv-loop μ-loop
 sub-left c = omega arith
@@ -40,7 +40,7 @@ loop-again : tie.Need-loop-again Inv-loop μ-loop
 unfolding varsCheck
 loop-again c =
     let p = c .before .before .before in
-    goes-on _ _ (p .before .before .loop .inv) _ (p .before .loop-test .taken) (λ m. simp (← p .var-check .ensures, c .before .next .given .1))
+    goes-on _ _ (p .before .before .loop .inv) _ (p .before .loop-test .taken) (λ m. simp (← p .next-var .ensures, c .before .next .given .1))
 
 returns-2 : tie.Need-returns-2 Inv-loop μ-loop
 unfolding varsCheck
@@ -53,7 +53,7 @@ vars-check-spec =
     Inv-loop
     μ-loop
     loop-holds
-    var-check-requires
+    next-var-requires
     enum-known-next
     enum-known-number
     returns
