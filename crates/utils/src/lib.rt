@@ -79,7 +79,7 @@ pub fn var_size(v: VarId) -> Sized
 }
 
 // `-ctx.offsets[id]`, as a two's complement pattern.
-fn displacement(tables: &[u8], offsets: &[u64], id: u64) -> Number
+pub fn displacement(tables: &[u8], offsets: &[u64], id: u64) -> Number
     ensures { λ r. ⌜ numberSays r ≡ displacement (lent (now (tables .entry)) (now (offsets .entry))) id ⌝ }
 {
     if id < offsets.len() as u64 {
