@@ -1,33 +1,24 @@
--- The loop over the variables: the offsets of those before the next one are filled in.
-use Prim.Native.Nat.{ℕ, zero, suc, _+_, _*_, _-_, _≤_, _<_}
+-- The loop over the variables' types: their layout, and the offsets of those before the next one.
+use Prim.Native.Nat.{ℕ, zero, suc, _+_, _-_, _≤_, _<_}
 use mathlib.Core.Path.{_≡_, refl, sym, ap, subst, _∙_}
-use mathlib.Core.Bool.{Bool, true, false, cond, _&&_, not}
+use mathlib.Core.Bool.{Bool, true, false, _&&_, not}
 use mathlib.Core.List.{List, [], _∷_, _++_}
 use native.Mathlib.Omega.{arith}
 use lib.ListN.{length, take, set}
 use lib.Dec.{eqb}
+use Rattle.cells.specs.declared.Cursor.{Cursor}
 use Rattle.ir.specs.declared.«Type».{«Type» as IrType}
-use Rattle.ir.specs.Types.{Result, ok, refused, elementWidth, bytes, typeSize, offsetBehind, lastOffset}
+use Rattle.ir.specs.Types.{elementWidth, bytes, offsetBehind, lastOffset}
 use Rattle.ir.specs.Function.{typeAt, typesAt}
+use Rattle.layout.specs.declared.Checked.{Checked}
+use Rattle.layout.specs.Layout.{typeCheck, typesCheck}
+use Rattle.layout.specs.Laid.{accepts}
+use Rattle.layout.proofs.Passed.{apart}
+use Rattle.layout.proofs.Laws.{type-right}
+use Rattle.layout.proofs.Turns.{Left, goes-on, stops, ends, types-on, types-over}
 use Rattle.codegen.specs.Frame.{offsetsFrom, haveWidths}
-
--- ---- the size of a type
-
-pub size-is : (t : IrType) {b : ℕ} → typeSize t ≡ ok b → (eqb (elementWidth (t .code)) 0 ≡ false) × (bytes t ≡ b)
-unfolding typeSize
-size-is t {b} = go (eqb (elementWidth (t .code)) 0) refl
-  where
-    go : (c : Bool) → eqb (elementWidth (t .code)) 0 ≡ c → cond c (refused 4) (ok (bytes t)) ≡ ok b → (eqb (elementWidth (t .code)) 0 ≡ false) × (bytes t ≡ b)
-    go true e h = absurd (let z : _≡_ {A = ℕ} 0 1 = cc in omega arith)
-    go false e h = (e, let z = h in cc)
-
-pub size-none : (t : IrType) {m : ℕ} → typeSize t ≡ refused m → (eqb (elementWidth (t .code)) 0 ≡ true) × (m ≡ 4)
-unfolding typeSize
-size-none t {m} = go (eqb (elementWidth (t .code)) 0) refl
-  where
-    go : (c : Bool) → eqb (elementWidth (t .code)) 0 ≡ c → cond c (refused 4) (ok (bytes t)) ≡ refused m → (eqb (elementWidth (t .code)) 0 ≡ true) × (m ≡ 4)
-    go true e h = (e, let z = h in cc)
-    go false e h = absurd (let z : _≡_ {A = ℕ} 0 1 = cc in omega arith)
+use Rattle.frame.specs.declared.Typed.{Typed}
+use Rattle.frame.specs.Sizes.{totalOf, sizesAt, typedOf}
 
 -- ---- lists
 
@@ -44,98 +35,105 @@ append-none : (xs : List ℕ) → xs ++ [] ≡ xs
 append-none [] = refl
 append-none (x ∷ xs) = ap (λ (r : List ℕ). x ∷ r) (append-none xs)
 
-pub last-le : (end : ℕ) (ts : List IrType) → end ≤ lastOffset end ts
-unfolding lastOffset
-last-le end [] = omega arith
-last-le end (t ∷ ts) = omega (arith, last-le (offsetBehind end t) ts)
+both-widths : (a b c : Bool) → ((a && b) && c) ≡ (a && (b && c))
+both-widths true b c = refl
+both-widths false b c = refl
 
--- ---- the loop
+one-width : (a : Bool) → a ≡ (a && true)
+one-width true = refl
+one-width false = refl
 
--- of all variables those before `left`, k of them, have their offsets, the last of which is `end`
-pub record Filled (all left : List IrType) (k end : ℕ) (os : List ℕ) : Type 0 where
-  pub widths : haveWidths left ≡ haveWidths all
+-- ---- the offsets
+
+-- of all variables those before `left`, k of them, have their offsets, the last of which is `end`; `widths` says whether each of them has a width
+pub record Filled (all left : List IrType) (k end : ℕ) (widths : Bool) (os : List ℕ) : Type 0 where
+  pub have : (widths && haveWidths left) ≡ haveWidths all
   pub last : lastOffset end left ≡ lastOffset 0 all
   pub so-far : take k os ++ offsetsFrom end left ≡ offsetsFrom 0 all
 
-pub none-filled : (all : List IrType) (os : List ℕ) → Filled all all 0 0 os
-none-filled all os = record { widths = refl; last = refl; so-far = refl }
+none-filled : (all : List IrType) (os : List ℕ) → Filled all all 0 0 true os
+none-filled all os = record { have = refl; last = refl; so-far = refl }
 
-module _ {all ts : List IrType} {t : IrType} {k end : ℕ} {os : List ℕ} (f : Filled all (t ∷ ts) k end os) where
-  pub end-small : {b m : ℕ} → typeSize t ≡ ok b → lastOffset 0 all ≤ m → end + b ≤ m
-  unfolding lastOffset
-  end-small {b} z l = omega (arith, f .last, last-le (offsetBehind end t) ts, l, size-is t z .1)
-
-  pub one-more : {b : ℕ} → typeSize t ≡ ok b → k < length os → Filled all ts (suc k) (end + b) (set os k (end + b))
-  unfolding haveWidths lastOffset offsetsFrom
-  one-more {b} z l =
-      let w = size-is t z in
-      let e : offsetBehind end t ≡ end + b = ap (λ (n : ℕ). end + n) (w .1) in
-      record {
-        widths = sym (rw (w .0) refl) ∙ f .widths;
-        last = ap (λ (n : ℕ). lastOffset n ts) (sym e) ∙ f .last;
-        so-far =
-            ap (λ (r : List ℕ). r ++ offsetsFrom (end + b) ts) (take-set os k (end + b) l) ∙ sym (append-one (take k os) (offsetsFrom (end + b) ts) (end + b))
-            ∙ ap (λ (n : ℕ). take k os ++ n ∷ offsetsFrom n ts) (sym e) ∙ f .so-far;
-      }
-
-  pub no-width : {m : ℕ} → typeSize t ≡ refused m → (haveWidths all ≡ false) × (m ≡ 4)
-  unfolding haveWidths
-  no-width z = let w = size-none t z in (sym (f .widths) ∙ rw (w .0) refl, w .1)
-
-pub all-filled : {all : List IrType} {k end : ℕ} {os : List ℕ} → Filled all [] k end os →
-    (haveWidths all ≡ true) × ((lastOffset 0 all ≡ end) × (take k os ≡ offsetsFrom 0 all))
+one-more : {all ts : List IrType} {t : IrType} {k end : ℕ} {widths : Bool} {os : List ℕ} {b : ℕ} → Filled all (t ∷ ts) k end widths os → b ≡ bytes t → k < length os →
+    Filled all ts (suc k) (end + b) (widths && not (eqb (elementWidth (t .code)) 0)) (set os k (end + b))
 unfolding haveWidths lastOffset offsetsFrom
-all-filled {all} {k} {end} {os} f = (sym (f .widths), (sym (f .last), sym (append-none (take k os)) ∙ f .so-far))
+one-more {all} {ts} {t} {k} {end} {widths} {os} {b} f z l =
+    let e : offsetBehind end t ≡ end + b = ap (λ (n : ℕ). end + n) (sym z) in
+    record {
+      have = both-widths widths (not (eqb (elementWidth (t .code)) 0)) (haveWidths ts) ∙ f .have;
+      last = ap (λ (n : ℕ). lastOffset n ts) (sym e) ∙ f .last;
+      so-far =
+          ap (λ (r : List ℕ). r ++ offsetsFrom (end + b) ts) (take-set os k (end + b) l) ∙ sym (append-one (take k os) (offsetsFrom (end + b) ts) (end + b))
+          ∙ ap (λ (n : ℕ). take k os ++ n ∷ offsetsFrom n ts) (sym e) ∙ f .so-far;
+    }
 
--- ---- the variables of a sheet
+-- ---- the loop
 
-abbrev pub typesLeft : List ℕ → ℕ → ℕ → List IrType
-typesLeft s n k = typesAt s (n - k) (6 + 2 * k)
+-- n types from a cursor on: the layout of the rest gives that of all
+module _ (s : List ℕ) (n : ℕ) (c : Cursor) where
+  abbrev whole : Checked
+  whole = typesCheck s n 0 c
 
-pub all-left : (s : List ℕ) (n : ℕ) → typesLeft s n 0 ≡ typesAt s n 6
-all-left s n = ap (λ (m : ℕ). typesAt s m 6) (let e : n - 0 ≡ n = omega arith in e)
+  abbrev rest : ℕ → ℕ × Cursor → Checked
+  rest m x = typesCheck s m (x .0) (x .1)
 
-pub next-left : (s : List ℕ) (n k : ℕ) → k < n → typesLeft s n k ≡ typeAt s (6 + 2 * k) ∷ typesLeft s n (suc k)
-unfolding typesAt
-next-left s n k h =
-    let a : n - k ≡ suc (n - suc k) = omega arith in
-    let b : 6 + 2 * k + 2 ≡ 6 + 2 * suc k = omega arith in
-    rw (a, ← b) refl
+  pub record Offsetting (left k end : ℕ) (widths : Bool) (here : Cursor) (os : List ℕ) : Type 0 where
+    pub sum : k + left ≡ n
+    pub small : end ≤ 1048576
+    pub layout : Left rest whole left (end, here)
+    pub filled : Filled (typesAt s n (c .at)) (typesAt s left (here .at)) k end widths os
 
-pub none-left : (s : List ℕ) (n k : ℕ) → n ≤ k → typesLeft s n k ≡ []
-unfolding typesAt
-none-left s n k h = let a : n - k ≡ 0 = omega arith in rw a refl
+  pub begins : (os : List ℕ) → Offsetting n 0 0 true c os
+  begins os = record { sum = omega arith; small = omega arith; layout = record { is = refl }; filled = none-filled (typesAt s n (c .at)) os }
 
--- the loop stands at variable k of n
-pub record Filling (s : List ℕ) (n k end : ℕ) (os : List ℕ) : Type 0 where
-  pub few : k ≤ n
-  pub filled : Filled (typesAt s n 6) (typesLeft s n k) k end os
+  -- an answer is a wrong cell, or all are filled in
+  abbrev AnsweredBy : Typed → List ℕ → Checked → Type 0
+  AnsweredBy r os x = (r ≡ typedOf x (sizesAt s n (c .at))) × (accepts x ≡ true → take n os ≡ offsetsFrom 0 (typesAt s n (c .at)))
 
-pub begins : (s : List ℕ) (n : ℕ) (os : List ℕ) → Filling s n 0 0 os
-begins s n os = record { few = omega arith; filled = rw (all-left s n) (none-filled (typesAt s n 6) os) }
+  abbrev pub Answered : Typed → List ℕ → Type 0
+  Answered r os = AnsweredBy r os (typesCheck s n 0 c)
 
-module _ {s : List ℕ} {n k end : ℕ} {os : List ℕ} (f : Filling s n k end os) where
-  at-next : k < n → Filled (typesAt s n 6) (typeAt s (6 + 2 * k) ∷ typesLeft s n (suc k)) k end os
-  at-next h = subst (λ (ts : List IrType). Filled (typesAt s n 6) ts k end os) (next-left s n k h) (f .filled)
+  wrong : {number cell : ℕ} (os : List ℕ) → Checked.Refused number cell ≡ whole → Answered (Typed.Wrong number cell) os
+  wrong {number} {cell} os e = subst (AnsweredBy (Typed.Wrong number cell) os) e (refl, λ t. apart (sym t))
 
-  -- a turn, by the size of the next variable
-  module _ {r : Result ℕ} (h : k < n) (z : r ≡ typeSize (typeAt s (6 + 2 * k))) where
-    pub turn-small : {b m : ℕ} → r ≡ ok b → lastOffset 0 (typesAt s n 6) ≤ m → end + b ≤ m
-    turn-small e l = end-small (at-next h) (sym z ∙ e) l
+  types-more : (left : ℕ) (here next : Cursor) → 0 < left → next .at ≡ here .at + 2 → typesAt s left (here .at) ≡ typeAt s (here .at) ∷ typesAt s (left - 1) (next .at)
+  unfolding typesAt
+  types-more zero here next h e = absurd (omega arith)
+  types-more (suc m) here next h e = let l : suc m - 1 ≡ m = omega arith in rw (l, e) refl
 
-    pub turn-fills : {b : ℕ} → r ≡ ok b → k < length os → Filling s n (k + 1) (end + b) (set os k (end + b))
-    turn-fills {b} e l =
-        let m : suc k ≡ k + 1 = omega arith in
-        record {
-          few = omega arith;
-          filled = subst (λ (j : ℕ). Filled (typesAt s n 6) (typesLeft s n j) j (end + b) (set os k (end + b))) m (one-more (at-next h) (sym z ∙ e) l);
-        }
+  module _ {left k end : ℕ} {widths : Bool} {here : Cursor} {os : List ℕ} (f : Offsetting left k end widths here os) where
+    module _ (h : 0 < left) where
+      -- the next type is wrong
+      pub turn-wrong : {number cell : ℕ} → typeCheck s here ≡ Checked.Refused number cell → Answered (Typed.Wrong number cell) os
+      unfolding typesCheck
+      turn-wrong e = wrong os (stops rest whole (f .layout) h (λ m. rw e refl))
 
-    pub turn-refuses : {m : ℕ} → r ≡ refused m → (haveWidths (typesAt s n 6) ≡ false) × (m ≡ 4)
-    turn-refuses e = no-width (at-next h) (sym z ∙ e)
+      module _ {next : Cursor} {b : ℕ} (right : typeCheck s here ≡ Checked.Behind next) (is : b ≡ bytes (typeAt s (here .at))) where
+        -- it passes the limit
+        pub turn-over : 1048576 < end + b → Answered (Typed.Wrong 3 (here .at + 1)) os
+        turn-over l = wrong os (stops rest whole (f .layout) h (λ m. types-over s end here next b m right is l))
 
-  pub turns-end : n ≤ k → (haveWidths (typesAt s n 6) ≡ true) × ((lastOffset 0 (typesAt s n 6) ≡ end) × (take n os ≡ offsetsFrom 0 (typesAt s n 6)))
-  turns-end h =
-      let e : k ≡ n = omega (arith, f .few) in
-      let a = all-filled (subst (λ (ts : List IrType). Filled (typesAt s n 6) ts k end os) (none-left s n k h) (f .filled)) in
-      (a .0, (a .1 .0, ap (λ (j : ℕ). take j os) (sym e) ∙ a .1 .1))
+        pub turn-on : end + b ≤ 1048576 → n ≤ length os →
+            Offsetting (left - 1) (k + 1) (end + b) (widths && not (eqb (elementWidth (typeAt s (here .at) .code)) 0)) next (set os k (end + b))
+        turn-on l long =
+            let m : suc k ≡ k + 1 = omega arith in
+            let more = types-more left here next h (type-right s here right .0) in
+            record {
+              sum = omega (arith, f .sum, h);
+              small = l;
+              layout = goes-on rest whole (f .layout) (end + b, next) h (λ m. types-on s end here next b m right is l);
+              filled = rw (← m) (one-more (subst (λ (ts : List IrType). Filled (typesAt s n (c .at)) ts k end widths os) more (f .filled)) is (omega (arith, f .sum, h, long)));
+            }
+
+    pub turns-end : left ≤ 0 → Answered (Typed.Sized (totalOf widths end) here) os
+    unfolding typesCheck typesAt haveWidths lastOffset offsetsFrom
+    turns-end l =
+        let z : left ≡ 0 = omega arith in
+        let e : Checked.Behind here ≡ whole = ends rest whole (f .layout) l refl in
+        let g = subst (λ (m : ℕ). Filled (typesAt s n (c .at)) (typesAt s m (here .at)) k end widths os) z (f .filled) in
+        let i : n ≡ k = omega (arith, f .sum, z) in
+        let w : widths ≡ haveWidths (typesAt s n (c .at)) = one-width widths ∙ g .have in
+        subst (AnsweredBy (Typed.Sized (totalOf widths end) here) os) e (
+          ap (λ (b : Bool). Typed.Sized (totalOf b end) here) w ∙ ap (λ (m : ℕ). Typed.Sized (totalOf (haveWidths (typesAt s n (c .at))) m) here) (g .last),
+          λ t. ap (λ (j : ℕ). take j os) i ∙ sym (append-none (take k os)) ∙ g .so-far,
+        )

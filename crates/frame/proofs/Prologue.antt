@@ -13,11 +13,11 @@ use Rattle.x86.specs.Records.{Record, recordOf, recordBytes}
 use Rattle.codegen.specs.Context.{Context}
 use Rattle.codegen.specs.Frame.{registersOf, storeParams, funcPrologue}
 use Rattle.codegen.proofs.Results.{Yields, yields, refuses, bind, never}
-use Rattle.utils.specs.Answers.{counted, emitted}
+use Rattle.utils.specs.Answers.{counted}
 use Rattle.utils.specs.Parts.{Put, PutAll}
 use Rattle.utils.proofs.Emitted.{Emitted, first, more}
-use Rattle.utils.proofs.Parts.{put-more, put-emitted, before}
-use Rattle.frame.specs.Stores.{entering, storeParam}
+use Rattle.utils.proofs.Parts.{put-more, before}
+use Rattle.frame.specs.Stores.{entering}
 use Rattle.frame.proofs.Stores.{turn, turn-few, registers-few}
 
 -- ---- a record by its cells

@@ -1,11 +1,11 @@
 -- The loop over the parameters: the records so far, and the bytes that have them.
-use Prim.Native.Nat.{ℕ, zero, suc, _+_, _*_, _-_, _≤_, _<_}
-use mathlib.Core.Path.{_≡_, refl, sym, ap, subst, _∙_}
+use Prim.Native.Nat.{ℕ, suc, _+_, _*_, _-_, _≤_, _<_}
+use mathlib.Core.Path.{_≡_, refl, sym, ap, _∙_}
 use mathlib.Core.Bool.{Bool, true, false, cond, not, Bool·beq}
-use mathlib.Core.List.{List, [], _∷_, _++_, append-nil, append-assoc}
+use mathlib.Core.List.{List, [], _∷_}
 use native.Mathlib.Omega.{arith}
 use borrow.Author.Tests.{ltb-true, lt-ltb, le-ltb}
-use lib.ListN.{length, length-append, getD}
+use lib.ListN.{length, getD}
 use lib.Dec.{ltb, lit≤}
 use Rattle.ir.specs.declared.VarId.{VarId}
 use Rattle.ir.specs.Types.{Result, ok, refused, _>>=_, isFloat}
@@ -19,7 +19,7 @@ use Rattle.codegen.specs.Utils.{varSize, convertVar}
 use Rattle.codegen.specs.Frame.{registersOf, storeOf, storeParams}
 use Rattle.codegen.proofs.Results.{Yields, yields, any, bind, weaken, choose, never}
 use Rattle.utils.specs.Answers.{counted, placed}
-use Rattle.utils.specs.Parts.{Put, PutAll}
+use Rattle.utils.specs.Parts.{PutAll}
 use Rattle.utils.proofs.Parts.{Going, begins, before, before-none, made-more, made-none, made-all}
 use Rattle.frame.specs.Stores.{storeOne, storeParam}
 

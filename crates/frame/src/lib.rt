@@ -1,69 +1,105 @@
 // Krc's codegen/generation.rs, the frame: `var_offsets` and `func_prologue`.
-use cells::cell_at;
+use cells::Cursor;
 use ir::VarId;
 use ir::read::type_at;
 use ir::read::var_at;
 use ir::types::Number;
+use ir::types::element_width;
+use layout::Checked;
+use layout::laid::next_type;
+use layout::parts::MOST_BYTES;
 use utils::Made;
-use utils::Placed;
 use utils::Sized;
-use utils::convert_var;
+use utils::displacement;
 use utils::room;
 use utils::var_size;
-use x86::enums::BinOp;
-use x86::enums::Instruction;
-use x86::enums::Operand;
-use x86::enums::Size;
 use x86::record::Record;
-use x86::record::put_instruction;
 use x86::record::put_record;
 use x86::register::Register;
 ghost use mathlib.Core.Path.{_≡_};
-ghost use mathlib.Core.Bool.{true, cond};
+ghost use mathlib.Core.Bool.{true, _&&_, not};
 ghost use Prim.Native.Nat.{_+_, _*_, _≤_};
+ghost use lib.Dec.{eqb};
 ghost use lib.ListN.{length, getD, take};
-ghost use Rattle.cells.specs.Cells.{cells, cellAt};
-ghost use Rattle.ir.specs.Types.{ok, refused, lastOffset};
-ghost use Rattle.ir.specs.Answers.{numberSays};
-ghost use Rattle.ir.specs.Function.{typesAt, varsAt, paramsFrom, bodyFrom};
+ghost use Rattle.cells.specs.Cells.{cells};
+ghost use Rattle.ir.specs.Types.{elementWidth};
+ghost use Rattle.ir.specs.Function.{typesAt, varsAt};
+ghost use Rattle.layout.specs.Layout.{typesCheck};
+ghost use Rattle.layout.specs.Laid.{accepts};
 ghost use Rattle.x86.specs.declared.enums.Operand.{Operand};
 ghost use Rattle.x86.specs.declared.enums.Size.{Size};
 ghost use Rattle.x86.specs.declared.enums.BinOp.{BinOp};
 ghost use Rattle.x86.specs.declared.enums.StackOp.{StackOp};
 ghost use Rattle.x86.specs.declared.enums.Instruction.{Instruction};
-ghost use Rattle.x86.specs.Registers.{RAX, RSP, RBP};
-ghost use Rattle.x86.specs.Records.{recordOf};
+ghost use Rattle.x86.specs.Registers.{number, RAX, RSP, RBP};
+ghost use Rattle.x86.specs.Records.{binCode, cellsRecord, recordOf};
 ghost use Rattle.x86.specs.Says.{recordSays};
-ghost use Rattle.codegen.specs.Frame.{offsetsFrom, haveWidths, registersOf, storeOf, storeParams, funcPrologue};
+ghost use Rattle.codegen.specs.Frame.{offsetsFrom, registersOf, storeOf, storeParams, funcPrologue};
 ghost use Rattle.utils.specs.Answers.{lent, madeSays, counted, emitted, placed};
 ghost use Rattle.utils.specs.Parts.{PutAll};
+ghost use Rattle.frame.specs.Sizes.{totalOf, sizesAt, typedOf};
 ghost use Rattle.frame.specs.Stores.{entering, storeOne, storeParam};
 
-// The offset of each of the `n` variables, and the last offset; refusal 4 where a variable has no width.
-pub fn var_offsets(sheet: &[u8], n: u64, offsets: &mut [u64]) -> Number
-    requires { ⌜ 6 + 2 * n ≤ cells (now sheet) ⌝ }
-    requires { ⌜ n ≤ length (now offsets) ⌝ }
-    requires { ⌜ lastOffset 0 (typesAt (now sheet) n 6) ≤ 1048576 ⌝ }
-    ensures { λ r. ⌜ numberSays r ≡ cond (haveWidths (typesAt (now (sheet .entry)) n 6)) (ok (lastOffset 0 (typesAt (now (sheet .entry)) n 6))) (refused 4) ⌝ }
-    ensures { λ r. ⌜ length (now (offsets .exit)) ≡ length (now (offsets .entry)) ⌝ }
-    ensures { λ r. ⌜ (haveWidths (typesAt (now (sheet .entry)) n 6) ≡ true → take n (now (offsets .exit)) ≡ offsetsFrom 0 (typesAt (now (sheet .entry)) n 6)) ⌝ }
+// What the variables' types come to: the total of their sizes and the cursor behind them, or the first wrong cell.
+pub enum Typed {
+    Sized(Number, Cursor),
+    Wrong(u64, usize),
+}
+
+fn has_width(code: u64) -> bool
+    ensures { λ r. ⌜ r ≡ not (eqb (elementWidth code) 0) ⌝ }
 {
+    element_width(code) != 0
+}
+
+// The total; refusal 4 where a variable has no width.
+fn total_of(widths: bool, end: u64) -> Number
+    ensures { λ r. ⌜ r ≡ totalOf widths end ⌝ }
+{
+    if widths {
+        Number::Is(end)
+    } else {
+        Number::Refused(4)
+    }
+}
+
+// The `n` variable types from a cursor on, and the offset of each variable. The total of their sizes so far stays within its limit: the count cell that
+// passes it is refused.
+pub fn var_offsets(s: &[u8], n: u64, c: Cursor, offsets: &mut [u64; 256]) -> Typed
+    requires { ⌜ n ≤ 256 ⌝ }
+    requires { ⌜ length (now offsets) ≡ 256 ⌝ }
+    ensures { λ r. ⌜ r ≡ typedOf (typesCheck (now (s .entry)) n 0 c) (sizesAt (now (s .entry)) n (c .at)) ⌝ }
+    ensures { λ r. ⌜ length (now (offsets .exit)) ≡ length (now (offsets .entry)) ⌝ }
+    ensures { λ r. ⌜ (accepts (typesCheck (now (s .entry)) n 0 c) ≡ true → take n (now (offsets .exit)) ≡ offsetsFrom 0 (typesAt (now (s .entry)) n (c .at))) ⌝ }
+{
+    let mut left = n;
     let mut k: usize = 0;
     let mut end: u64 = 0;
-    while (k as u64) < n {
-        let ty = type_at(sheet, 6 + 2 * k);
-        match ty.size() {
-            Number::Is(bytes) => {
-                end += bytes;
-                offsets[k] = end;
-            }
-            Number::Refused(number) => {
-                return Number::Refused(number);
-            }
+    let mut widths = true;
+    let mut here = c;
+    while 0 < left {
+        let next = match next_type(s, here) {
+            Checked::Behind(next) => next,
+            Checked::Refused(number, cell) => return Typed::Wrong(number, cell),
+        };
+        let ty = type_at(s, here.at);
+        end += ty.bytes();
+        if MOST_BYTES < end {
+            return Typed::Wrong(3, here.at + 1);
         }
+        offsets[k] = end;
+        widths = both(widths, has_width(ty.code));
+        here = next;
         k += 1;
+        left -= 1;
     }
-    Number::Is(end)
+    Typed::Sized(total_of(widths, end), here)
+}
+
+fn both(a: bool, b: bool) -> bool
+    ensures { λ r. ⌜ r ≡ (a && b) ⌝ }
+{
+    if a { b } else { false }
 }
 
 // `PARAM_REGS` and `PARAM_FREGS`: the register of the parameter of rank `k` among those that are floats, or among those that are not.
@@ -102,10 +138,27 @@ pub fn registers(float: bool) -> u64
     if float { 8 } else { 6 }
 }
 
-fn store_op(float: bool) -> BinOp
-    ensures { λ r. ⌜ r ≡ storeOf float ⌝ }
+// The record of a parameter's store, from the register of its rank into its slot, of so many bytes.
+fn store_record(float: bool, k: u64, slot: u64, size: u64) -> Record
+    ensures { λ r. ⌜ recordSays r ≡ cellsRecord 0 (binCode (storeOf float)) 5 slot 1 (number (getD (registersOf float) k RAX)) size 0 ⌝ }
 {
-    if float { BinOp::StoreF } else { BinOp::Mov }
+    let reg = param_register(float, k);
+    Record {
+        form: 0,
+        operation: store_code(float),
+        dst_tag: 5,
+        dst: slot,
+        src_tag: 1,
+        src: reg.number(),
+        size,
+        src_size: 0,
+    }
+}
+
+fn store_code(float: bool) -> u64
+    ensures { λ r. ⌜ r ≡ binCode (storeOf float) ⌝ }
+{
+    if float { 12 } else { 0 }
 }
 
 // A parameter, from the register of its rank into its slot.
@@ -121,25 +174,16 @@ fn store_one(
     ensures { λ r. ⌜ madeSays r ≡ counted (storeOne (lent (now (tables .entry)) (now (offsets .entry))) float k p) ⌝ }
     ensures { λ r. ⌜ now (out .exit) ≡ placed at (storeOne (lent (now (tables .entry)) (now (offsets .entry))) float k p) (now (out .entry)) ⌝ }
 {
-    let dst = match convert_var(tables, offsets, p) {
-        Placed::Is(dst) => dst,
-        Placed::Refused(n) => return Made::Refused(n),
+    let slot = match displacement(tables, offsets, p.id) {
+        Number::Is(slot) => slot,
+        Number::Refused(n) => return Made::Refused(n),
     };
     let size = match var_size(p) {
         Sized::Is(size) => size,
         Sized::Refused(n) => return Made::Refused(n),
     };
     if 1 <= room(out.len(), at) {
-        put_instruction(
-            out,
-            at,
-            Instruction::Binary {
-                op: store_op(float),
-                dst,
-                src: Operand::Reg(param_register(float, k)),
-                size,
-            },
-        );
+        put_record(out, at, store_record(float, k, slot, size.code()));
     }
     Made::Records(1)
 }

@@ -1,6 +1,5 @@
 use mathlib.Core.Path.{refl}
 use Rattle.x86.specs.Records.{recordOf}
-use borrow.Author.Needs.{needs}
 use Rattle.frame.proofs.frame_entered.Statement.{statement}
 use Rattle.frame.proofs.frame_entered.Tie as tie
 

@@ -1,7 +1,6 @@
 use borrow.Author.Needs.{needs}
 use native.Mathlib.Omega.{arith}
-use Prim.Native.Nat.{ℕ, suc, _≤_, _+_, _*_}
-use mathlib.Core.Path.{_≡_, refl, sym, ap, _∙_}
+use mathlib.Core.Path.{refl, ap}
 use Rattle.utils.specs.Answers.{lent, madeSays}
 use Rattle.frame.proofs.Stores.{Storing, registers-few, none-stored, stored-more, store-refused, all-stored}
 use Rattle.frame.proofs.store_params.Statement.{statement}

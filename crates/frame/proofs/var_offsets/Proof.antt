@@ -1,100 +1,88 @@
-use borrow.Author.Needs.{needs}
 use native.Mathlib.Omega.{arith}
-use Prim.Native.Nat.{ℕ, suc, _≤_, _+_, _-_, _*_}
 use mathlib.Core.Path.{_≡_, refl, sym, ap, _∙_}
 use lib.ListN.{length, length-set}
-use mathlib.Core.Bool.{true, false}
-use Rattle.ir.specs.Types.{typeSize}
-use Rattle.ir.specs.Answers.{numberSays}
-use Rattle.frame.proofs.Offsets.{Filling, begins, turn-small, turn-fills, turn-refuses, turns-end}
+use Rattle.ir.specs.Types.{bytes}
+use Rattle.layout.proofs.Laws.{type-right}
+use Rattle.frame.proofs.Offsets.{Offsetting, begins, turn-wrong, turn-over, turn-on, turns-end}
+use borrow.Author.Needs.{needs}
 use Rattle.frame.proofs.var_offsets.Statement.{statement}
 use Rattle.frame.proofs.var_offsets.Tie as tie
-use Rattle.frame.proofs.var_offsets.Reads as reads
-use Rattle.frame.proofs.var_offsets.Lts as lts
-use Rattle.ir.proofs.Type.size.Reads as size-reads
-use Rattle.ir.proofs.read.type_at.Reads as type-at-reads
-
-true-not-false : true ≡ false → ⊥
-true-not-false e = let z : _≡_ {A = ℕ} 0 1 = cc in omega arith
 
 abbrev Inv-loop : tie.InvT-loop
-Inv-loop sheet n offsets₀ k₀ end₀ offsets k end =
-    Filling sheet n k end offsets × (length offsets ≡ length offsets₀)
+Inv-loop s n offsets₀ left₀ k₀ end₀ widths₀ here₀ offsets left k end widths here = Offsetting s n here₀ left k end widths here offsets × (length offsets ≡ length offsets₀)
 
 abbrev μ-loop : tie.MeasureT-loop
-μ-loop sheet n offsets₀ k₀ end₀ offsets k end = n - k
+μ-loop s n offsets₀ left₀ k₀ end₀ widths₀ here₀ offsets left k end widths here = left
 
 loop-holds : tie.Need-loop-holds Inv-loop μ-loop
-loop-holds c = (begins (c .before .before .args .sheet .now) (c .before .before .args .n) (c .before .before .args .offsets .now), refl)
+loop-holds c = (begins _ _ _ _, refl)
 
-mul-type-at : tie.Need-mul-type-at Inv-loop μ-loop
-mul-type-at c = omega arith
+next-type-requires : tie.Need-next-type-requires Inv-loop μ-loop
+next-type-requires c κs = search needs
 
-add-type-at : tie.Need-add-type-at Inv-loop μ-loop
-add-type-at c = omega arith
-
-type-at-requires : tie.Need-type-at-requires Inv-loop μ-loop
-type-at-requires c κs = omega arith
-
-size-requires : tie.Need-size-requires Inv-loop μ-loop
-size-requires c κs = search needs
-
-enum-known-bytes : tie.Need-enum-known-bytes Inv-loop μ-loop
-enum-known-bytes c = search needs
-
-add-end : tie.Need-add-end Inv-loop μ-loop
-add-end c =
-    let t = c .before .before .before .before in
-    let l = t .before .before in
-    omega (arith, turn-small (l .loop .inv .0) (t .before .loop-test .taken) (c .before .before .before .size .ensures ∙ ap typeSize (t .type-at .ensures)) (ap numberSays (c .before .bytes .given .1)) (l .before .before .before .pre .1 .1))
-
-mul-offsets : tie.Need-mul-offsets Inv-loop μ-loop
-mul-offsets c = search needs
-
-slice-write-offsets : tie.Need-slice-write-offsets Inv-loop μ-loop
-slice-write-offsets c =
-    let t = c .before .before .before .before in
-    let l = t .before .before in
-    omega (arith, t .before .loop-test .taken, l .loop .inv .1, l .before .before .before .pre .1 .0)
+enum-known-next : tie.Need-enum-known-next Inv-loop μ-loop
+enum-known-next c = search needs
 
 enum-known-number : tie.Need-enum-known-number Inv-loop μ-loop
 enum-known-number c = search needs
 
-same-length : tie.Need-same-length Inv-loop μ-loop
-same-length c = c .before .before .before .before .before .before .loop .inv .1
-
 returns : tie.Need-returns Inv-loop μ-loop
 returns c =
-    let t = c .before .before .before .before in
-    let l = t .before .before in
-    let a = turn-refuses (l .loop .inv .0) (t .before .loop-test .taken) (c .before .before .before .size .ensures ∙ ap typeSize (t .type-at .ensures)) (ap numberSays (c .before .number .given .1)) in
-    (rw (a .0, a .1) refl, (l .loop .inv .1, λ e. absurd (true-not-false (sym e ∙ a .0))))
+    let a = turn-wrong _ _ _ (c .before .before .before .before .before .loop .inv .0) (c .before .before .before .before .loop-test .taken) (sym (c .before .before .before .next-type .ensures) ∙ c .before .number .given .1) in
+    (a .0, (c .before .before .before .before .before .loop .inv .1, a .1))
 
-add-k : tie.Need-add-k Inv-loop μ-loop
-add-k c =
-    let t = c .before .before .before .before in
-    let l = t .before .before in
-    omega (arith, t .before .loop-test .taken)
+type-at-requires : tie.Need-type-at-requires Inv-loop μ-loop
+type-at-requires c κs = type-right _ (c .before .before .before .before .before .loop .here) (sym (c .before .before .before .next-type .ensures) ∙ c .before .next .given .1) .2 .there
 
-loop-less : tie.Need-loop-less Inv-loop μ-loop
-loop-less c =
-    let t = c .before .before .before .before in
-    let l = t .before .before in
-    omega (arith, t .before .loop-test .taken)
+bytes-requires : tie.Need-bytes-requires Inv-loop μ-loop
+bytes-requires c κs = search needs
 
-loop-again : tie.Need-loop-again Inv-loop μ-loop
-loop-again c =
-    let t = c .before .before .before .before in
-    let l = t .before .before in
-    (turn-fills (l .loop .inv .0) (t .before .loop-test .taken) (c .before .before .before .size .ensures ∙ ap typeSize (t .type-at .ensures)) (ap numberSays (c .before .bytes .given .1)) (slice-write-offsets c), length-set (l .loop .offsets) (l .loop .k) _ ∙ l .loop .inv .1)
+add-end : tie.Need-add-end Inv-loop μ-loop
+add-end c = omega (arith, c .before .before .before .before .before .before .before .loop .inv .0 .small, c .bytes .ensures .1)
 
-same-length-2 : tie.Need-same-length-2 Inv-loop μ-loop
-same-length-2 c = c .before .loop .inv .1
+add-t19 : tie.Need-add-t19 Inv-loop μ-loop
+add-t19 c = omega (arith, type-right _ (c .before .before .before .before .before .before .before .before .before .loop .here) (sym (c .before .before .before .before .before .before .before .next-type .ensures) ∙ c .before .before .before .before .before .next .given .1) .2 .there)
 
 returns-2 : tie.Need-returns-2 Inv-loop μ-loop
 returns-2 c =
-    let a = turns-end (c .before .loop .inv .0) (c .loop-test .left) in
-    (rw (a .0, a .1 .0) refl, (c .before .loop .inv .1, λ e. a .1 .1))
+    let a = turn-over _ _ _ (c .before .before .before .before .before .before .before .before .before .loop .inv .0) (c .before .before .before .before .before .before .before .before .loop-test .taken) (sym (c .before .before .before .before .before .before .before .next-type .ensures) ∙ c .before .before .before .before .before .next .given .1) (c .before .before .bytes .ensures .0 ∙ ap bytes (c .before .before .before .type-at .ensures)) (c .before .if1 .taken) in
+    (a .0, (c .before .before .before .before .before .before .before .before .before .loop .inv .1, a .1))
+
+mul-offsets : tie.Need-mul-offsets Inv-loop μ-loop
+mul-offsets c = omega (arith, c .before .before .before .before .before .before .before .before .loop .inv .0 .sum, c .before .before .before .before .before .before .before .loop-test .taken, c .before .before .before .before .before .before .before .before .before .before .pre .0)
+
+element-write-offsets : tie.Need-element-write-offsets Inv-loop μ-loop
+element-write-offsets c = omega (arith, c .before .before .before .before .before .before .before .before .loop .inv .0 .sum, c .before .before .before .before .before .before .before .loop-test .taken, c .before .before .before .before .before .before .before .before .before .before .pre .0)
+
+has-width-requires : tie.Need-has-width-requires Inv-loop μ-loop
+has-width-requires c κs = search needs
+
+both-requires : tie.Need-both-requires Inv-loop μ-loop
+both-requires c κs = search needs
+
+add-k : tie.Need-add-k Inv-loop μ-loop
+add-k c = omega (arith, c .before .before .before .before .before .before .before .before .before .before .loop .inv .0 .sum, c .before .before .before .before .before .before .before .before .before .loop-test .taken)
+
+sub-left : tie.Need-sub-left Inv-loop μ-loop
+sub-left c = omega (arith, c .before .before .before .before .before .before .before .before .before .loop-test .taken)
+
+loop-less : tie.Need-loop-less Inv-loop μ-loop
+loop-less c = omega (arith, c .before .before .before .before .before .before .before .before .before .loop-test .taken)
+
+loop-again : tie.Need-loop-again Inv-loop μ-loop
+loop-again c = (
+  rw (c .both .ensures, c .before .has-width .ensures, c .before .before .before .before .type-at .ensures)
+      (turn-on _ _ _ (c .before .before .before .before .before .before .before .before .before .before .loop .inv .0) (c .before .before .before .before .before .before .before .before .before .loop-test .taken) (sym (c .before .before .before .before .before .before .before .before .next-type .ensures) ∙ c .before .before .before .before .before .before .next .given .1) (c .before .before .before .bytes .ensures .0 ∙ ap bytes (c .before .before .before .before .type-at .ensures)) (c .before .before .if1 .left) (omega (arith, c .before .before .before .before .before .before .before .before .before .before .loop .inv .1, c .before .before .before .before .before .before .before .before .before .before .before .before .pre .0, c .before .before .before .before .before .before .before .before .before .before .before .before .pre .1))),
+  length-set (c .before .before .before .before .before .before .before .before .before .before .loop .offsets) (c .before .before .before .before .before .before .before .before .before .before .loop .k) _ ∙ c .before .before .before .before .before .before .before .before .before .before .loop .inv .1,
+)
+
+total-of-requires : tie.Need-total-of-requires Inv-loop μ-loop
+total-of-requires c κs = search needs
+
+returns-3 : tie.Need-returns-3 Inv-loop μ-loop
+returns-3 c =
+    let a = turns-end _ _ _ (c .before .before .loop .inv .0) (c .before .loop-test .left) in
+    (rw (c .total-of .ensures) (a .0), (c .before .before .loop .inv .1, a .1))
 
 pub var-offsets-spec : {M : Type 1} → statement M
 var-offsets-spec =
@@ -103,19 +91,22 @@ var-offsets-spec =
     Inv-loop
     μ-loop
     loop-holds
-    mul-type-at
-    add-type-at
-    type-at-requires
-    size-requires
-    enum-known-bytes
-    add-end
-    mul-offsets
-    slice-write-offsets
+    next-type-requires
+    enum-known-next
     enum-known-number
-    same-length
     returns
+    type-at-requires
+    bytes-requires
+    add-end
+    add-t19
+    returns-2
+    mul-offsets
+    element-write-offsets
+    has-width-requires
+    both-requires
     add-k
+    sub-left
     loop-less
     loop-again
-    same-length-2
-    returns-2)
+    total-of-requires
+    returns-3)
