@@ -2,17 +2,17 @@
 use Prim.Native.Nat.{ℕ, zero, suc}
 use mathlib.Core.Path.{_≡_, refl, sym, ap, _∙_}
 use mathlib.Core.Bool.{Bool, true, false, cond, _&&_, _||_}
-use mathlib.Core.List.{List, [], _∷_, _++_}
-use lib.ListN.{length, getD}
+use mathlib.Core.List.{List, [], _∷_}
+use lib.ListN.{length}
 use native.Mathlib.Omega.{arith}
 use lib.Dec.{ltb, eqb, leb}
-use borrow.Author.Tests.{eq-eqb}
+use borrow.Author.Tests.{ne-eqb}
 use Rattle.ir.specs.declared.«Type».{«Type» as IrType}
 use Rattle.ir.specs.declared.VarId.{VarId}
 use Rattle.ir.specs.declared.UnaryOp.{UnaryOp as IrUnary}
 use Rattle.ir.specs.declared.Operand.{Operand as IrOp}
 use Rattle.ir.specs.declared.Instr.{Instr}
-use Rattle.ir.specs.Types.{Result, ok, refused, _>>=_, noArray, isScalar, elementWidth, bytes, typeSize, isFloat, isUnsigned, elementSize, elfSize, operandSize}
+use Rattle.ir.specs.Types.{ok, _>>=_, isScalar, elementWidth, bytes, typeSize, isFloat, isUnsigned, elementSize, elfSize, operandSize}
 use Rattle.ir.specs.Function.{binaryOp}
 use Rattle.x86.specs.declared.register.Register.{Register}
 use Rattle.x86.specs.declared.enums.Size.{Size}
@@ -20,7 +20,7 @@ use Rattle.x86.specs.declared.enums.Operand.{Operand}
 use Rattle.x86.specs.declared.enums.BinOp.{BinOp}
 use Rattle.x86.specs.declared.enums.ConditionCode.{ConditionCode}
 use Rattle.x86.specs.declared.enums.ShiftOp.{ShiftOp}
-use Rattle.x86.specs.declared.enums.ExtendOp.{ExtendOp}
+use Rattle.x86.specs.declared.enums.ComplexBinOp.{ComplexBinOp}
 use Rattle.x86.specs.declared.enums.Instruction.{Instruction}
 use Rattle.x86.specs.Registers.{RAX, RCX, RDX, xmm}
 use Rattle.codegen.specs.Context.{Context, displacement, labelAt}
@@ -30,7 +30,7 @@ use Rattle.codegen.specs.Arithmetic.{simpleOperation, twoLoads, dividing, divis
 use Rattle.codegen.specs.Generation.{generateInstr}
 use Rattle.utils.specs.Answers.{counted}
 use Rattle.layout.proofs.Passed.{apart}
-use Rattle.integers.specs.Integers.{isInteger, isIntegerVar, isIntegerOperand, areMoved, areIntegers, binaryCount, quickCount, slotOf, operandOf, valueSize, valueUnsigned, copyList, simpleList, comparedList, shiftList, productList, unaryRecord, unaryList, branchList, binaryList, openList, quickList, valueWidth, isVar, castCount, castList, extended, widenedList, constantList, clearOrSign, divideBy, divisionList, zeroList, returnList}
+use Rattle.integers.specs.Integers.{isInteger, isIntegerVar, isIntegerOperand, areMoved, areIntegers, binaryCount, quickCount, slotOf, operandOf, valueSize, valueUnsigned, copyList, simpleList, comparedList, throughRcx, pairRecord, unaryRecord, unaryList, branchList, binaryShape, simpleOp, comparedCode, shiftOp, pairList, binaryList, given, quickList, valueWidth, isVar, castCount, castList, extended, widenedList, constantList, clearOrSign, divideBy, divisionList, zeroList, returnList}
 
 -- both of two tests
 pub first : (a b : Bool) → (a && b) ≡ true → a ≡ true
@@ -40,6 +40,20 @@ first false b h = apart (sym h)
 pub second : (a b : Bool) → (a && b) ≡ true → b ≡ true
 second true b h = h
 second false b h = apart (sym h)
+
+-- dest and left, then right
+pub all-three : (n : ℕ) (d : VarId) (l r : IrOp) → areMoved n d l ≡ true → areIntegers n d l r ≡ isIntegerOperand n r
+unfolding areMoved areIntegers
+all-three n d l r h = rw (first (isIntegerVar n d) _ h, second (isIntegerVar n d) _ h)
+
+pub not-three : (n : ℕ) (d : VarId) (l r : IrOp) → areMoved n d l ≡ false → areIntegers n d l r ≡ false
+unfolding areMoved areIntegers
+not-three n d l r = go (isIntegerVar n d) (isIntegerOperand n l)
+  where
+    go : (a b : Bool) → (a && b) ≡ false → (a && (b && isIntegerOperand n r)) ≡ false
+    go true true h = apart h
+    go true false h = refl
+    go false b h = refl
 
 -- ---- variables
 
@@ -184,6 +198,9 @@ kind-integral n (IrOp.Address v) = refl
 kind-integral n (IrOp.DataAddress k) = refl
 kind-integral n IrOp.Null = refl
 
+abbrev pub Some : List Instruction → Type 0
+Some is = length is ≡ 0 → ⊥
+
 -- ---- the lists
 
 abbrev Var : Context → VarId → Type 0
@@ -259,8 +276,9 @@ compared-made ctx d l r cc hd hl hr =
       value-stands _ l (operandSize r) hl,
     )
 
-shift-made : (ctx : Context) (d : VarId) (l r : IrOp) (op : ShiftOp) → Var ctx d → Op ctx l → Op ctx r → shift ctx d l r op ≡ ok (shiftList (ctx .offsets) d l r op)
-unfolding shift twoLoads shiftList
+shift-made : (ctx : Context) (d : VarId) (l r : IrOp) (op : ShiftOp) → Var ctx d → Op ctx l → Op ctx r → shift ctx d l r op
+    ≡ ok (throughRcx (ctx .offsets) d l r (Instruction.Shift op (Operand.Reg RAX) (Operand.Reg RCX) (elfSize (d .ty))))
+unfolding shift twoLoads
 shift-made ctx d l r op hd hl hr =
     rw (
       sized _ d hd,
@@ -271,8 +289,9 @@ shift-made ctx d l r op hd hl hr =
       var-stands _ d (operandSize r) hd,
     )
 
-product-made : (ctx : Context) (d : VarId) (l r : IrOp) → Var ctx d → Op ctx l → Op ctx r → multiplication ctx d l r ≡ ok (productList (ctx .offsets) d l r)
-unfolding multiplication twoLoads productList
+product-made : (ctx : Context) (d : VarId) (l r : IrOp) → Var ctx d → Op ctx l → Op ctx r → multiplication ctx d l r
+    ≡ ok (throughRcx (ctx .offsets) d l r (Instruction.ComplexBinary ComplexBinOp.Imul (Operand.Reg RAX) (Operand.Reg RCX) (elfSize (d .ty))))
+unfolding multiplication twoLoads
 product-made ctx d l r hd hl hr =
     rw (
       sized _ d hd,
@@ -448,21 +467,22 @@ return-made ctx ret x hx = rw (loaded ctx (cond (isFloat ret) (xmm 0) RAX) x Siz
 
 -- ---- any of them
 
--- where the count is not 0 its condition holds
-pub holds : (b : Bool) (n : ℕ) → (cond b n 0 ≡ 0 → ⊥) → b ≡ true
-holds true n h = refl
-holds false n h = absurd (h refl)
+-- a list that is given is the list of a test that is met
+pub is-given : (b : Bool) (is : List Instruction) → Some (given b is) → (b ≡ true) × Some is
+is-given true is h = (refl, h)
+is-given false is h = absurd (h refl)
 
-nonzero : (b : Bool) (n : ℕ) → (cond b n 0 ≡ 0 → ⊥) → n ≡ 0 → ⊥
-nonzero true n h = h
-nonzero false n h = absurd (h refl)
+pub given-long : (b : Bool) (is : List Instruction) (n : ℕ) → length is ≡ n → length (given b is) ≡ cond b n 0
+given-long true is n e = e
+given-long false is n e = refl
 
-abbrev pub Some : List Instruction → Type 0
-Some is = length is ≡ 0 → ⊥
+-- an operation beyond the division is the remainder
+beyond : (n : ℕ) → eqb (suc (suc (suc (suc (suc (suc (suc (suc (suc (suc (suc (suc (suc (suc (suc (suc (suc (suc n)))))))))))))))))) 16 ≡ false
+beyond n = ne-eqb (suc (suc (suc (suc (suc (suc (suc (suc (suc (suc (suc (suc (suc (suc (suc (suc (suc (suc n)))))))))))))))))) 16 (λ e. omega (arith, e))
 
-binary-made : (ctx : Context) (d : VarId) (l r : IrOp) (op : ℕ) → Var ctx d → Op ctx l → Op ctx r → (binaryCount op ≡ 0 → ⊥)
+binary-made : (ctx : Context) (d : VarId) (l r : IrOp) (op : ℕ) → Var ctx d → Op ctx l → Op ctx r → Some (binaryList (ctx .offsets) d op l r)
     → integerBinary ctx d (binaryOp op) l r ≡ ok (binaryList (ctx .offsets) d op l r)
-unfolding binaryOp binaryList binaryCount
+unfolding binaryOp binaryShape binaryList simpleOp comparedCode pairList pairRecord shiftOp
 binary-made ctx d l r zero hd hl hr h = absurd (h refl)
 binary-made ctx d l r (suc zero) hd hl hr h = absurd (h refl)
 binary-made ctx d l r (suc (suc zero)) hd hl hr h = simple-made ctx d l r BinOp.Or hd hl hr
@@ -481,10 +501,10 @@ binary-made ctx d l r (suc (suc (suc (suc (suc (suc (suc (suc (suc (suc (suc (su
 binary-made ctx d l r (suc (suc (suc (suc (suc (suc (suc (suc (suc (suc (suc (suc (suc (suc (suc zero))))))))))))))) hd hl hr h = product-made ctx d l r hd hl hr
 binary-made ctx d l r (suc (suc (suc (suc (suc (suc (suc (suc (suc (suc (suc (suc (suc (suc (suc (suc zero)))))))))))))))) hd hl hr h = division-made ctx d l r RAX hd hl hr
 binary-made ctx d l r (suc (suc (suc (suc (suc (suc (suc (suc (suc (suc (suc (suc (suc (suc (suc (suc (suc zero))))))))))))))))) hd hl hr h = division-made ctx d l r RDX hd hl hr
-binary-made ctx d l r (suc (suc (suc (suc (suc (suc (suc (suc (suc (suc (suc (suc (suc (suc (suc (suc (suc (suc n)))))))))))))))))) hd hl hr h = division-made ctx d l r RDX hd hl hr
+binary-made ctx d l r (suc (suc (suc (suc (suc (suc (suc (suc (suc (suc (suc (suc (suc (suc (suc (suc (suc (suc n)))))))))))))))))) hd hl hr h = rw (beyond n) (division-made ctx d l r RDX hd hl hr)
 
 binary-long : (offsets : List ℕ) (d : VarId) (l r : IrOp) (op : ℕ) → length (binaryList offsets d op l r) ≡ binaryCount op
-unfolding binaryList binaryCount simpleList comparedList shiftList productList divisionList
+unfolding binaryShape binaryList binaryCount simpleList comparedList pairList divisionList
 binary-long offsets d l r zero = refl
 binary-long offsets d l r (suc zero) = refl
 binary-long offsets d l r (suc (suc zero)) = refl
@@ -501,62 +521,55 @@ binary-long offsets d l r (suc (suc (suc (suc (suc (suc (suc (suc (suc (suc (suc
 binary-long offsets d l r (suc (suc (suc (suc (suc (suc (suc (suc (suc (suc (suc (suc (suc zero))))))))))))) = refl
 binary-long offsets d l r (suc (suc (suc (suc (suc (suc (suc (suc (suc (suc (suc (suc (suc (suc zero)))))))))))))) = refl
 binary-long offsets d l r (suc (suc (suc (suc (suc (suc (suc (suc (suc (suc (suc (suc (suc (suc (suc zero))))))))))))))) = refl
-binary-long offsets d l r (suc (suc (suc (suc (suc (suc (suc (suc (suc (suc (suc (suc (suc (suc (suc (suc zero)))))))))))))))) = refl
-binary-long offsets d l r (suc (suc (suc (suc (suc (suc (suc (suc (suc (suc (suc (suc (suc (suc (suc (suc (suc n))))))))))))))))) = refl
+binary-long offsets d l r (suc (suc (suc (suc (suc (suc (suc (suc (suc (suc (suc (suc (suc (suc (suc (suc n)))))))))))))))) = refl
 
--- an instruction whose count is not 0
 module _ (ctx : Context) (labels : ℕ) (ret : IrType) (args : List IrOp) where
-  open-made : (i : Instr) → (quickCount (length (ctx .offsets)) labels i ≡ 0 → ⊥) → generateInstr ctx labels ret i args ≡ ok (openList (ctx .offsets) (isFloat ret) i)
-  unfolding quickCount areMoved areIntegers generateInstr generateBinary generateLabel generateJump generateJmpIfNot labelAt openList branchList
-  open-made (Instr.Copy d x) h =
-      let e = holds (areMoved (length (ctx .offsets)) d x) 2 h in
-      copy-made ctx d x (first _ _ e) (second (isIntegerVar (length (ctx .offsets)) d) _ e)
-  open-made (Instr.Unary d op x) h =
-      let e = holds (areMoved (length (ctx .offsets)) d x) 3 h in
-      unary-made ctx d op x (first _ _ e) (second (isIntegerVar (length (ctx .offsets)) d) _ e)
-  open-made (Instr.Binary d op l r) h =
-      let b = areIntegers (length (ctx .offsets)) d l r in
-      let e = holds b (binaryCount op) h in
-      let f = second (isIntegerVar (length (ctx .offsets)) d) _ e in
-      rw (integral _ d (first _ _ e)) (binary-made ctx d l r op (first _ _ e) (first _ _ f) (second (isIntegerOperand (length (ctx .offsets)) l) _ f) (nonzero b (binaryCount op) h))
-  open-made (Instr.Cast d x) h =
-      let e = holds (areMoved (length (ctx .offsets)) d x) (castCount (d .ty .code) x) h in
-      cast-made ctx d x (first _ _ e) (second (isIntegerVar (length (ctx .offsets)) d) _ e)
-  open-made (Instr.Zero d) h = zero-made ctx d (holds (isIntegerVar (length (ctx .offsets)) d) 4 h)
-  open-made (Instr.Call d symbol count) h = absurd (h refl)
-  open-made (Instr.Label l) h = rw (holds (ltb l labels) 1 h)
-  open-made (Instr.Jump l) h = rw (holds (ltb l labels) 1 h)
-  open-made (Instr.JumpIfNot x l) h =
-      let e = holds (isIntegerOperand (length (ctx .offsets)) x && ltb l labels) 3 h in
-      rw (loaded ctx RAX x Size.U8 (first _ _ e), second (isIntegerOperand (length (ctx .offsets)) x) _ e)
-  open-made (Instr.Return x) h = return-made ctx ret x (holds (isIntegerOperand (length (ctx .offsets)) x) 4 h)
-  open-made Instr.Comment h = absurd (h refl)
-
-  -- its count is the list's length
-  open-long : (i : Instr) → (quickCount (length (ctx .offsets)) labels i ≡ 0 → ⊥) → length (openList (ctx .offsets) (isFloat ret) i) ≡ quickCount (length (ctx .offsets)) labels i
-  unfolding quickCount openList copyList unaryList branchList zeroList returnList
-  open-long (Instr.Copy d x) h = rw (holds (areMoved (length (ctx .offsets)) d x) 2 h)
-  open-long (Instr.Unary d op x) h = rw (holds (areMoved (length (ctx .offsets)) d x) 3 h)
-  open-long (Instr.Binary d op l r) h = rw (holds (areIntegers (length (ctx .offsets)) d l r) (binaryCount op) h) (binary-long (ctx .offsets) d l r op)
-  open-long (Instr.Cast d x) h = rw (holds (areMoved (length (ctx .offsets)) d x) (castCount (d .ty .code) x) h) (cast-long (ctx .offsets) d x)
-  open-long (Instr.Zero d) h = rw (holds (isIntegerVar (length (ctx .offsets)) d) 4 h)
-  open-long (Instr.Call d symbol count) h = absurd (h refl)
-  open-long (Instr.Label l) h = rw (holds (ltb l labels) 1 h)
-  open-long (Instr.Jump l) h = rw (holds (ltb l labels) 1 h)
-  open-long (Instr.JumpIfNot x l) h = rw (holds (isIntegerOperand (length (ctx .offsets)) x && ltb l labels) 3 h)
-  open-long (Instr.Return x) h = rw (holds (isIntegerOperand (length (ctx .offsets)) x) 4 h)
-  open-long Instr.Comment h = absurd (h refl)
-
-  -- a count that is not 0 is the number of records
-  pub quick-counted : (i : Instr) → (quickCount (length (ctx .offsets)) labels i ≡ 0 → ⊥) → counted (generateInstr ctx labels ret i args) ≡ ok (quickCount (length (ctx .offsets)) labels i)
-  quick-counted i h = ap counted (open-made i h) ∙ ap ok (open-long i h)
+  -- the list's length is its count
+  pub quick-long : (i : Instr) → length (quickList (ctx .offsets) labels (isFloat ret) i) ≡ quickCount (length (ctx .offsets)) labels i
+  unfolding quickCount quickList copyList unaryList branchList zeroList returnList
+  quick-long (Instr.Copy d x) = given-long (areMoved (length (ctx .offsets)) d x) _ 2 refl
+  quick-long (Instr.Unary d op x) = given-long (areMoved (length (ctx .offsets)) d x) _ 3 refl
+  quick-long (Instr.Binary d op l r) = given-long (areIntegers (length (ctx .offsets)) d l r) _ (binaryCount op) (binary-long (ctx .offsets) d l r op)
+  quick-long (Instr.Cast d x) = given-long (areMoved (length (ctx .offsets)) d x) _ (castCount (d .ty .code) x) (cast-long (ctx .offsets) d x)
+  quick-long (Instr.Zero d) = given-long (isIntegerVar (length (ctx .offsets)) d) _ 4 refl
+  quick-long (Instr.Call d symbol count) = refl
+  quick-long (Instr.Label l) = given-long (ltb l labels) _ 1 refl
+  quick-long (Instr.Jump l) = given-long (ltb l labels) _ 1 refl
+  quick-long (Instr.JumpIfNot x l) = given-long (isIntegerOperand (length (ctx .offsets)) x && ltb l labels) _ 3 refl
+  quick-long (Instr.Return x) = given-long (isIntegerOperand (length (ctx .offsets)) x) _ 4 refl
+  quick-long Instr.Comment = refl
 
   -- a list that is not empty is the list maker's
   pub quick-made : (i : Instr) → Some (quickList (ctx .offsets) labels (isFloat ret) i) → generateInstr ctx labels ret i args ≡ ok (quickList (ctx .offsets) labels (isFloat ret) i)
-  unfolding quickList
-  quick-made i h = go (eqb (quickCount (length (ctx .offsets)) labels i) 0) refl
-    where
-      go : (b : Bool) → eqb (quickCount (length (ctx .offsets)) labels i) 0 ≡ b
-          → generateInstr ctx labels ret i args ≡ ok (cond (eqb (quickCount (length (ctx .offsets)) labels i) 0) [] (openList (ctx .offsets) (isFloat ret) i))
-      go true e = absurd (h (rw (e)))
-      go false e = rw (e) (open-made i (λ z. apart (sym (eq-eqb (quickCount (length (ctx .offsets)) labels i) 0 z) ∙ e)))
+  unfolding quickList areMoved areIntegers generateInstr generateBinary generateLabel generateJump generateJmpIfNot labelAt branchList
+  quick-made (Instr.Copy d x) h =
+      let g = is-given (areMoved (length (ctx .offsets)) d x) (copyList (ctx .offsets) d x) h .0 in
+      rw g (copy-made ctx d x (first _ _ g) (second (isIntegerVar (length (ctx .offsets)) d) _ g))
+  quick-made (Instr.Unary d op x) h =
+      let g = is-given (areMoved (length (ctx .offsets)) d x) (unaryList (ctx .offsets) d op x) h .0 in
+      rw g (unary-made ctx d op x (first _ _ g) (second (isIntegerVar (length (ctx .offsets)) d) _ g))
+  quick-made (Instr.Binary d op l r) h =
+      let p = is-given (areIntegers (length (ctx .offsets)) d l r) (binaryList (ctx .offsets) d op l r) h in
+      let g = p .0 in
+      let f = second (isIntegerVar (length (ctx .offsets)) d) _ g in
+      rw (g, integral _ d (first _ _ g)) (binary-made ctx d l r op (first _ _ g) (first _ _ f) (second (isIntegerOperand (length (ctx .offsets)) l) _ f) (p .1))
+  quick-made (Instr.Cast d x) h =
+      let g = is-given (areMoved (length (ctx .offsets)) d x) (castList (ctx .offsets) d x) h .0 in
+      rw g (cast-made ctx d x (first _ _ g) (second (isIntegerVar (length (ctx .offsets)) d) _ g))
+  quick-made (Instr.Zero d) h =
+      let g = is-given (isIntegerVar (length (ctx .offsets)) d) (zeroList (ctx .offsets) d) h .0 in
+      rw g (zero-made ctx d g)
+  quick-made (Instr.Call d symbol count) h = absurd (h refl)
+  quick-made (Instr.Label l) h = rw (is-given (ltb l labels) _ h .0)
+  quick-made (Instr.Jump l) h = rw (is-given (ltb l labels) _ h .0)
+  quick-made (Instr.JumpIfNot x l) h =
+      let g = is-given (isIntegerOperand (length (ctx .offsets)) x && ltb l labels) _ h .0 in
+      rw (loaded ctx RAX x Size.U8 (first _ _ g), first (isIntegerOperand (length (ctx .offsets)) x) _ g, second (isIntegerOperand (length (ctx .offsets)) x) _ g)
+  quick-made (Instr.Return x) h =
+      let g = is-given (isIntegerOperand (length (ctx .offsets)) x) _ h .0 in
+      rw g (return-made ctx ret x g)
+  quick-made Instr.Comment h = absurd (h refl)
+
+  -- a count that is not 0 is the number of records
+  pub quick-counted : (i : Instr) → (quickCount (length (ctx .offsets)) labels i ≡ 0 → ⊥) → counted (generateInstr ctx labels ret i args) ≡ ok (quickCount (length (ctx .offsets)) labels i)
+  quick-counted i h = ap counted (quick-made i (λ e. h (sym (quick-long i) ∙ e))) ∙ ap ok (quick-long i)

@@ -1,7 +1,7 @@
 -- What the `_` of a match on a number leaves.
 use Prim.Native.Nat.{ℕ, zero, suc, _+_, _≤_, _<_}
 use mathlib.Core.Path.{_≡_, refl}
-use mathlib.Core.Bool.{Bool, true, false, cond}
+use mathlib.Core.Bool.{true, false, cond}
 use mathlib.Core.List.{List, [], _∷_}
 use lib.ListN.{getD}
 use Rattle.cells.specs.Cells.{cellAt}
@@ -14,7 +14,7 @@ use lib.Dec.{ltb, eqb}
 use Rattle.ir.specs.Types.{noArray, elementWidth}
 use borrow.Author.Tests.{le-leb, lt-leb, ne-eqb}
 use Rattle.ir.specs.Function.{varAt}
-use Rattle.integers.specs.Integers.{isInteger, isIntegerVar, isIntegerOperand, binaryCount, quickCount, valueWidth, isVar, castCount}
+use Rattle.integers.specs.Integers.{isInteger, isIntegerVar, isIntegerOperand, binaryCount, binaryShape, quickCount, valueWidth, isVar, castCount}
 
 pub no-integer : (c : ℕ) → (c ≡ 1 → ⊥) → (c ≡ 2 → ⊥) → (c ≡ 3 → ⊥) → (c ≡ 4 → ⊥) → (c ≡ 7 → ⊥) → (c ≡ 8 → ⊥) → (c ≡ 9 → ⊥) → (c ≡ 10 → ⊥) → false ≡ isInteger c
 unfolding isInteger
@@ -101,23 +101,26 @@ pub no-slot : (n : ℕ) (s : List ℕ) (k : ℕ) → ltb (cellAt s k) n ≡ fals
 unfolding isIntegerVar
 no-slot n s k h = rw (h)
 
--- what has no width
-pub no-width : (c : ℕ) → (c ≡ 1 → ⊥) → (c ≡ 2 → ⊥) → (c ≡ 3 → ⊥) → (c ≡ 4 → ⊥) → (c ≡ 5 → ⊥) → (c ≡ 6 → ⊥) → (c ≡ 7 → ⊥) → (c ≡ 8 → ⊥) → (c ≡ 9 → ⊥) → (c ≡ 10 → ⊥) → 0 ≡ elementWidth c
-unfolding elementWidth
-no-width zero h1 h2 h3 h4 h5 h6 h7 h8 h9 h10 = refl
-no-width (suc zero) h1 h2 h3 h4 h5 h6 h7 h8 h9 h10 = absurd (h1 refl)
-no-width (suc (suc zero)) h1 h2 h3 h4 h5 h6 h7 h8 h9 h10 = absurd (h2 refl)
-no-width (suc (suc (suc zero))) h1 h2 h3 h4 h5 h6 h7 h8 h9 h10 = absurd (h3 refl)
-no-width (suc (suc (suc (suc zero)))) h1 h2 h3 h4 h5 h6 h7 h8 h9 h10 = absurd (h4 refl)
-no-width (suc (suc (suc (suc (suc zero))))) h1 h2 h3 h4 h5 h6 h7 h8 h9 h10 = absurd (h5 refl)
-no-width (suc (suc (suc (suc (suc (suc zero)))))) h1 h2 h3 h4 h5 h6 h7 h8 h9 h10 = absurd (h6 refl)
-no-width (suc (suc (suc (suc (suc (suc (suc zero))))))) h1 h2 h3 h4 h5 h6 h7 h8 h9 h10 = absurd (h7 refl)
-no-width (suc (suc (suc (suc (suc (suc (suc (suc zero)))))))) h1 h2 h3 h4 h5 h6 h7 h8 h9 h10 = absurd (h8 refl)
-no-width (suc (suc (suc (suc (suc (suc (suc (suc (suc zero))))))))) h1 h2 h3 h4 h5 h6 h7 h8 h9 h10 = absurd (h9 refl)
-no-width (suc (suc (suc (suc (suc (suc (suc (suc (suc (suc zero)))))))))) h1 h2 h3 h4 h5 h6 h7 h8 h9 h10 = absurd (h10 refl)
-no-width (suc (suc (suc (suc (suc (suc (suc (suc (suc (suc (suc zero))))))))))) h1 h2 h3 h4 h5 h6 h7 h8 h9 h10 = refl
-no-width (suc (suc (suc (suc (suc (suc (suc (suc (suc (suc (suc (suc zero)))))))))))) h1 h2 h3 h4 h5 h6 h7 h8 h9 h10 = refl
-no-width (suc (suc (suc (suc (suc (suc (suc (suc (suc (suc (suc (suc (suc n))))))))))))) h1 h2 h3 h4 h5 h6 h7 h8 h9 h10 = refl
+-- the last of the shapes
+pub last-shape : (op : ℕ) → (op ≡ 0 → ⊥) → (op ≡ 1 → ⊥) → (op ≡ 2 → ⊥) → (op ≡ 3 → ⊥) → (op ≡ 4 → ⊥) → (op ≡ 5 → ⊥) → (op ≡ 6 → ⊥) → (op ≡ 7 → ⊥) → (op ≡ 8 → ⊥) → (op ≡ 9 → ⊥) → (op ≡ 10 → ⊥) → (op ≡ 11 → ⊥) → (op ≡ 12 → ⊥) → (op ≡ 13 → ⊥) → (op ≡ 14 → ⊥) → (op ≡ 15 → ⊥) → 4 ≡ binaryShape op
+unfolding binaryShape
+last-shape zero h0 h1 h2 h3 h4 h5 h6 h7 h8 h9 h10 h11 h12 h13 h14 h15 = absurd (h0 refl)
+last-shape (suc zero) h0 h1 h2 h3 h4 h5 h6 h7 h8 h9 h10 h11 h12 h13 h14 h15 = absurd (h1 refl)
+last-shape (suc (suc zero)) h0 h1 h2 h3 h4 h5 h6 h7 h8 h9 h10 h11 h12 h13 h14 h15 = absurd (h2 refl)
+last-shape (suc (suc (suc zero))) h0 h1 h2 h3 h4 h5 h6 h7 h8 h9 h10 h11 h12 h13 h14 h15 = absurd (h3 refl)
+last-shape (suc (suc (suc (suc zero)))) h0 h1 h2 h3 h4 h5 h6 h7 h8 h9 h10 h11 h12 h13 h14 h15 = absurd (h4 refl)
+last-shape (suc (suc (suc (suc (suc zero))))) h0 h1 h2 h3 h4 h5 h6 h7 h8 h9 h10 h11 h12 h13 h14 h15 = absurd (h5 refl)
+last-shape (suc (suc (suc (suc (suc (suc zero)))))) h0 h1 h2 h3 h4 h5 h6 h7 h8 h9 h10 h11 h12 h13 h14 h15 = absurd (h6 refl)
+last-shape (suc (suc (suc (suc (suc (suc (suc zero))))))) h0 h1 h2 h3 h4 h5 h6 h7 h8 h9 h10 h11 h12 h13 h14 h15 = absurd (h7 refl)
+last-shape (suc (suc (suc (suc (suc (suc (suc (suc zero)))))))) h0 h1 h2 h3 h4 h5 h6 h7 h8 h9 h10 h11 h12 h13 h14 h15 = absurd (h8 refl)
+last-shape (suc (suc (suc (suc (suc (suc (suc (suc (suc zero))))))))) h0 h1 h2 h3 h4 h5 h6 h7 h8 h9 h10 h11 h12 h13 h14 h15 = absurd (h9 refl)
+last-shape (suc (suc (suc (suc (suc (suc (suc (suc (suc (suc zero)))))))))) h0 h1 h2 h3 h4 h5 h6 h7 h8 h9 h10 h11 h12 h13 h14 h15 = absurd (h10 refl)
+last-shape (suc (suc (suc (suc (suc (suc (suc (suc (suc (suc (suc zero))))))))))) h0 h1 h2 h3 h4 h5 h6 h7 h8 h9 h10 h11 h12 h13 h14 h15 = absurd (h11 refl)
+last-shape (suc (suc (suc (suc (suc (suc (suc (suc (suc (suc (suc (suc zero)))))))))))) h0 h1 h2 h3 h4 h5 h6 h7 h8 h9 h10 h11 h12 h13 h14 h15 = absurd (h12 refl)
+last-shape (suc (suc (suc (suc (suc (suc (suc (suc (suc (suc (suc (suc (suc zero))))))))))))) h0 h1 h2 h3 h4 h5 h6 h7 h8 h9 h10 h11 h12 h13 h14 h15 = absurd (h13 refl)
+last-shape (suc (suc (suc (suc (suc (suc (suc (suc (suc (suc (suc (suc (suc (suc zero)))))))))))))) h0 h1 h2 h3 h4 h5 h6 h7 h8 h9 h10 h11 h12 h13 h14 h15 = absurd (h14 refl)
+last-shape (suc (suc (suc (suc (suc (suc (suc (suc (suc (suc (suc (suc (suc (suc (suc zero))))))))))))))) h0 h1 h2 h3 h4 h5 h6 h7 h8 h9 h10 h11 h12 h13 h14 h15 = absurd (h15 refl)
+last-shape (suc (suc (suc (suc (suc (suc (suc (suc (suc (suc (suc (suc (suc (suc (suc (suc n)))))))))))))))) h0 h1 h2 h3 h4 h5 h6 h7 h8 h9 h10 h11 h12 h13 h14 h15 = refl
 
 -- the operands of eight bytes
 pub wide-operand : (s : List ℕ) (k : ℕ) → (cellAt s k ≡ 0 → ⊥) → (cellAt s k ≡ 1 → ⊥) → (cellAt s k ≡ 3 → ⊥) → 8 ≡ valueWidth (operandAt s k)
@@ -155,3 +158,11 @@ narrow code x h = rw (le-leb (elementWidth code) (valueWidth x) h)
 pub wide : (code : ℕ) (s : List ℕ) (k : ℕ) → valueWidth (operandAt s k) < elementWidth code → cond (eqb (cellAt s k) 0) 2 3 ≡ castCount code (operandAt s k)
 unfolding castCount
 wide code s k h = rw (lt-leb (elementWidth code) (valueWidth (operandAt s k)) h, is-var s k)
+
+-- behind the four shapes
+pub other-shape : {A : Type 0} (a b c d e : A) (n : ℕ) → (n ≡ 0 → ⊥) → (n ≡ 1 → ⊥) → (n ≡ 2 → ⊥) → (n ≡ 3 → ⊥) → getD (a ∷ b ∷ c ∷ d ∷ []) n e ≡ e
+other-shape a b c d e zero h0 h1 h2 h3 = absurd (h0 refl)
+other-shape a b c d e (suc zero) h0 h1 h2 h3 = absurd (h1 refl)
+other-shape a b c d e (suc (suc zero)) h0 h1 h2 h3 = absurd (h2 refl)
+other-shape a b c d e (suc (suc (suc zero))) h0 h1 h2 h3 = absurd (h3 refl)
+other-shape a b c d e (suc (suc (suc (suc n)))) h0 h1 h2 h3 = refl

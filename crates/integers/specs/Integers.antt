@@ -1,14 +1,17 @@
 -- Instructions on integer variables and constants, which are never refused: the number of their records, and the records.
-use Prim.Native.Nat.{ℕ}
+use Prim.Native.Nat.{ℕ, _+_, _*_, _≤_}
+use mathlib.Core.Path.{_≡_}
 use mathlib.Core.List.{List, [], _∷_}
 use mathlib.Core.Bool.{Bool, true, false, cond, _&&_, _||_}
 use lib.Dec.{eqb, ltb, leb}
 use lib.ListN.{getD, length}
-use Rattle.cells.specs.Cells.{minus}
+use Rattle.cells.specs.Cells.{minus, write}
+use Rattle.ir.specs.declared.«Type».{«Type» as IrType}
 use Rattle.ir.specs.declared.VarId.{VarId}
 use Rattle.ir.specs.declared.Operand.{Operand as IrOp}
 use Rattle.ir.specs.declared.UnaryOp.{UnaryOp}
 use Rattle.ir.specs.declared.Instr.{Instr}
+use Rattle.ir.specs.Function.{varAt, operandAt}
 use Rattle.ir.specs.Types.{isScalar, isUnsigned, elementWidth, elfSize, operandSize}
 use Rattle.x86.specs.declared.register.Register.{Register}
 use Rattle.x86.specs.declared.enums.Size.{Size}
@@ -23,11 +26,33 @@ use Rattle.x86.specs.declared.enums.Prefix.{Prefix}
 use Rattle.x86.specs.declared.enums.StringOp.{StringOp}
 use Rattle.x86.specs.declared.enums.ConditionCode.{ConditionCode}
 use Rattle.x86.specs.declared.enums.Instruction.{Instruction}
-use Rattle.x86.specs.Registers.{rbpPlus, xmm, RAX, RCX, RDX, RDI}
-use Rattle.x86.specs.Records.{Record, cellsRecord, sizeCode, recordOf}
-use Rattle.codegen.specs.Utils.{isOneByte, loadFrom}
+use Rattle.x86.specs.Registers.{rbpPlus, gpr, xmm, RAX, RCX, RDX, RDI}
+use Rattle.x86.specs.Records.{Record, listBytes, cellsRecord, sizeCode, shiftCode, tagOf, valueOf}
+use Rattle.codegen.specs.Utils.{loadFrom}
 use Rattle.codegen.specs.Instructions.{move, funcEpilogue}
 use Rattle.codegen.specs.Arithmetic.{unsignedCode, signInto}
+
+-- ---- an instruction's parts, by its cells: dest, left and right
+
+abbrev pub destVar : List ℕ → ℕ → VarId
+destVar s k = varAt s (k + 2)
+
+abbrev pub leftOp : List ℕ → ℕ → IrOp
+leftOp s k = operandAt s (k + 5)
+
+abbrev pub rightOp : List ℕ → ℕ → IrOp
+rightOp s k = operandAt s (k + 9)
+
+-- ---- what a writer of a list leaves: the bytes have room for it from `at` on, then have it there, and are as before elsewhere
+
+abbrev pub Fits : List Instruction → ℕ → List ℕ → Type 0
+Fits is at bs = at + 64 * length is ≤ length bs
+
+pub record Wrote (is : List Instruction) (at n : ℕ) (old new : List ℕ) : Type 0 where
+  pub count : n ≡ length is
+  pub bytes : new ≡ write old at (listBytes is)
+
+-- ---- which instructions, and how many records
 
 -- the codes of integers, Bool, Char, Byte and Address (01, "Sheet and tables")
 unfoldable pub isInteger : ℕ → Bool
@@ -60,6 +85,10 @@ valueWidth (IrOp.Bool b) = 1
 valueWidth (IrOp.Address v) = 8
 valueWidth (IrOp.DataAddress k) = 8
 valueWidth IrOp.Null = 8
+
+-- the bytes of a move that touches a variable of a type
+abbrev pub typeBytes : IrType → ℕ
+typeBytes ty = sizeCode (elfSize ty)
 
 -- whether it is a variable
 abbrev pub isVar : IrOp → Bool
@@ -156,17 +185,9 @@ comparedList offsets d l r cc =
 unfoldable pub copyList : List ℕ → VarId → IrOp → List Instruction
 copyList offsets d x = load offsets RAX x (elfSize (d .ty)) ∷ store offsets d RAX ∷ []
 
--- `mov rax, left ; mov rcx, right ; sh rax, cl ; mov [dest], rax`
-unfoldable pub shiftList : List ℕ → VarId → IrOp → IrOp → ShiftOp → List Instruction
-shiftList offsets d l r op =
-    load offsets RAX l (elfSize (d .ty)) ∷ load offsets RCX r (elfSize (d .ty))
-    ∷ Instruction.Shift op (Operand.Reg RAX) (Operand.Reg RCX) (elfSize (d .ty)) ∷ store offsets d RAX ∷ []
-
--- `mov rax, left ; mov rcx, right ; imul rax, rcx ; mov [dest], rax`
-unfoldable pub productList : List ℕ → VarId → IrOp → IrOp → List Instruction
-productList offsets d l r =
-    load offsets RAX l (elfSize (d .ty)) ∷ load offsets RCX r (elfSize (d .ty))
-    ∷ Instruction.ComplexBinary ComplexBinOp.Imul (Operand.Reg RAX) (Operand.Reg RCX) (elfSize (d .ty)) ∷ store offsets d RAX ∷ []
+-- `mov rax, left ; mov rcx, right`, a record on the two, `mov [dest], rax`
+abbrev pub throughRcx : List ℕ → VarId → IrOp → IrOp → Instruction → List Instruction
+throughRcx offsets d l r i = load offsets RAX l (elfSize (d .ty)) ∷ load offsets RCX r (elfSize (d .ty)) ∷ i ∷ store offsets d RAX ∷ []
 
 -- negation, complement, or the logical not of a Bool
 unfoldable pub unaryRecord : UnaryOp → Size → Instruction
@@ -226,63 +247,101 @@ branchList offsets x l =
     load offsets RAX x Size.U8 ∷ Instruction.Binary BinOp.Cmp (Operand.Reg RAX) (Operand.Imm 0) Size.U8
     ∷ Instruction.Ctrl (CtrlOp.JmpCC ConditionCode.E) (Operand.Label l) ∷ []
 
+-- how an operation is done, by its number: 1 on RAX and the right operand, 2 a comparison, 3 on RAX and RCX, 4 a division; the logical pair is not
+unfoldable pub binaryShape : ℕ → ℕ
+binaryShape op = getD (0 ∷ 0 ∷ 1 ∷ 1 ∷ 1 ∷ 2 ∷ 2 ∷ 2 ∷ 2 ∷ 2 ∷ 2 ∷ 3 ∷ 3 ∷ 1 ∷ 1 ∷ 3 ∷ []) op 4
+
+-- what it is done by, of each shape
+unfoldable pub simpleOp : ℕ → BinOp
+simpleOp op = cond (eqb op 2) BinOp.Or (cond (eqb op 3) BinOp.Xor (cond (eqb op 4) BinOp.And (cond (eqb op 13) BinOp.Add BinOp.Sub)))
+
+unfoldable pub comparedCode : ℕ → ConditionCode
+comparedCode op =
+    cond (eqb op 5) ConditionCode.E (cond (eqb op 6) ConditionCode.NE
+    (cond (eqb op 7) ConditionCode.L (cond (eqb op 8) ConditionCode.LE (cond (eqb op 9) ConditionCode.G ConditionCode.GE))))
+
+unfoldable pub shiftOp : ℕ → Bool → ShiftOp
+shiftOp op unsigned = cond (eqb op 11) ShiftOp.Shl (cond unsigned ShiftOp.Shr ShiftOp.Sar)
+
+-- `imul rax, rcx`, or `sh rax, cl`
+unfoldable pub pairRecord : ℕ → Bool → Size → Instruction
+pairRecord op unsigned size =
+    cond (eqb op 15) (Instruction.ComplexBinary ComplexBinOp.Imul (Operand.Reg RAX) (Operand.Reg RCX) size)
+    (Instruction.Shift (shiftOp op unsigned) (Operand.Reg RAX) (Operand.Reg RCX) size)
+
+unfoldable pub pairList : List ℕ → VarId → ℕ → IrOp → IrOp → List Instruction
+pairList offsets d op l r = throughRcx offsets d l r (pairRecord op (isUnsigned (d .ty)) (elfSize (d .ty)))
+
+-- the register of a division's result
+abbrev pub resultOf : ℕ → Register
+resultOf op = gpr (cond (eqb op 16) 0 2)
+
 -- by the operation's number; none for the logical pair
 unfoldable pub binaryList : List ℕ → VarId → ℕ → IrOp → IrOp → List Instruction
 binaryList offsets d op l r =
     getD
-    ([] ∷ [] ∷ simpleList offsets d l r BinOp.Or ∷ simpleList offsets d l r BinOp.Xor ∷ simpleList offsets d l r BinOp.And
-    ∷ comparedList offsets d l r ConditionCode.E ∷ comparedList offsets d l r ConditionCode.NE ∷ comparedList offsets d l r ConditionCode.L
-    ∷ comparedList offsets d l r ConditionCode.LE ∷ comparedList offsets d l r ConditionCode.G ∷ comparedList offsets d l r ConditionCode.GE
-    ∷ shiftList offsets d l r ShiftOp.Shl ∷ shiftList offsets d l r (cond (isUnsigned (d .ty)) ShiftOp.Shr ShiftOp.Sar) ∷ simpleList offsets d l r BinOp.Add
-    ∷ simpleList offsets d l r BinOp.Sub ∷ productList offsets d l r ∷ divisionList offsets d l r RAX ∷ []) op (divisionList offsets d l r RDX)
+    ([] ∷ simpleList offsets d l r (simpleOp op) ∷ comparedList offsets d l r (comparedCode op) ∷ pairList offsets d op l r ∷ [])
+    (binaryShape op) (divisionList offsets d l r (resultOf op))
 
--- the list with these offsets, by whether the return type is a float
-unfoldable pub openList : List ℕ → Bool → Instr → List Instruction
-openList offsets float (Instr.Copy dest src) = copyList offsets dest src
-openList offsets float (Instr.Unary dest op src) = unaryList offsets dest op src
-openList offsets float (Instr.Binary dest op left right) = binaryList offsets dest op left right
-openList offsets float (Instr.Cast dest src) = castList offsets dest src
-openList offsets float (Instr.Zero dest) = zeroList offsets dest
-openList offsets float (Instr.Call dest symbol count) = []
-openList offsets float (Instr.Label l) = Instruction.Label l ∷ []
-openList offsets float (Instr.Jump l) = Instruction.Ctrl CtrlOp.Jmp (Operand.Label l) ∷ []
-openList offsets float (Instr.JumpIfNot condition target) = branchList offsets condition target
-openList offsets float (Instr.Return op) = returnList offsets float op
-openList offsets float Instr.Comment = []
+-- a list, where a test is met
+abbrev pub given : Bool → List Instruction → List Instruction
+given b is = cond b is []
 
--- .. with so many labels; empty for what is left to the list makers
+-- the list with these offsets and so many labels, by whether the return type is a float; empty for what is left to the list makers
 unfoldable pub quickList : List ℕ → ℕ → Bool → Instr → List Instruction
-quickList offsets labels float i = cond (eqb (quickCount (length offsets) labels i) 0) [] (openList offsets float i)
+quickList offsets labels float (Instr.Copy dest src) = given (areMoved (length offsets) dest src) (copyList offsets dest src)
+quickList offsets labels float (Instr.Unary dest op src) = given (areMoved (length offsets) dest src) (unaryList offsets dest op src)
+quickList offsets labels float (Instr.Binary dest op left right) =
+    given (areIntegers (length offsets) dest left right) (binaryList offsets dest op left right)
+quickList offsets labels float (Instr.Cast dest src) = given (areMoved (length offsets) dest src) (castList offsets dest src)
+quickList offsets labels float (Instr.Zero dest) = given (isIntegerVar (length offsets) dest) (zeroList offsets dest)
+quickList offsets labels float (Instr.Call dest symbol count) = []
+quickList offsets labels float (Instr.Label l) = given (ltb l labels) (Instruction.Label l ∷ [])
+quickList offsets labels float (Instr.Jump l) = given (ltb l labels) (Instruction.Ctrl CtrlOp.Jmp (Operand.Label l) ∷ [])
+quickList offsets labels float (Instr.JumpIfNot condition target) =
+    given (isIntegerOperand (length offsets) condition && ltb target labels) (branchList offsets condition target)
+quickList offsets labels float (Instr.Return op) = given (isIntegerOperand (length offsets) op) (returnList offsets float op)
+quickList offsets labels float Instr.Comment = []
 
--- the list of a label, a jump or a branch to one of so many labels; empty for any other
-unfoldable pub jumpList : List ℕ → ℕ → Instr → List Instruction
-jumpList offsets labels (Instr.Copy dest src) = []
-jumpList offsets labels (Instr.Unary dest op src) = []
-jumpList offsets labels (Instr.Binary dest op left right) = []
-jumpList offsets labels (Instr.Cast dest src) = []
-jumpList offsets labels (Instr.Zero dest) = []
-jumpList offsets labels (Instr.Call dest symbol count) = []
-jumpList offsets labels (Instr.Label l) = cond (ltb l labels) (Instruction.Label l ∷ []) []
-jumpList offsets labels (Instr.Jump l) = cond (ltb l labels) (Instruction.Ctrl CtrlOp.Jmp (Operand.Label l) ∷ []) []
-jumpList offsets labels (Instr.JumpIfNot condition target) =
-    cond (isIntegerOperand (length offsets) condition && ltb target labels) (branchList offsets condition target) []
-jumpList offsets labels (Instr.Return op) = []
-jumpList offsets labels Instr.Comment = []
-
--- ---- records by their cells
+-- ---- records by their cells, a size as a number of bytes
 
 -- a load into a general register of an operand of a tag and a value
-unfoldable pub loadCells : ℕ → ℕ → ℕ → Size → Record
-loadCells reg tag value size =
-    cond (isOneByte size) (cond (eqb tag 2) (cellsRecord 0 0 1 reg tag value 4 0) (cellsRecord 7 2 1 reg tag value 8 1))
-    (cellsRecord 0 0 1 reg tag value (sizeCode size) 0)
+unfoldable pub loadCells : ℕ → ℕ → ℕ → ℕ → Record
+loadCells reg tag value bytes =
+    cond (eqb bytes 1) (cond (eqb tag 2) (cellsRecord 0 0 1 reg tag value 4 0) (cellsRecord 7 2 1 reg tag value 8 1))
+    (cellsRecord 0 0 1 reg tag value bytes 0)
+
+-- .. of any operand
+abbrev pub loadOf : List ℕ → ℕ → IrOp → ℕ → Record
+loadOf offsets reg x bytes = loadCells reg (tagOf (operandOf offsets x)) (valueOf (operandOf offsets x)) bytes
+
+-- `op rax, x`, by the operation's code
+abbrev pub operationCells : List ℕ → ℕ → IrOp → ℕ → Record
+operationCells offsets code x bytes = cellsRecord 0 code 1 0 (tagOf (operandOf offsets x)) (valueOf (operandOf offsets x)) bytes 0
+
+-- the number of an unsigned code, of a code's number
+unfoldable pub unsignedNumber : ℕ → ℕ
+unsignedNumber code = getD (0 ∷ 1 ∷ 6 ∷ 7 ∷ 8 ∷ 9 ∷ []) code code
+
+unfoldable pub unaryCells : UnaryOp → ℕ → Record
+unaryCells UnaryOp.Neg bytes = cellsRecord 17 0 1 0 0 0 bytes 0
+unaryCells UnaryOp.BitNot bytes = cellsRecord 17 1 1 0 0 0 bytes 0
+unaryCells UnaryOp.Not bytes = cellsRecord 0 8 1 0 2 1 bytes 0
 
 -- a value of a tag widened into RAX: one byte with zeros, else four with the sign
 unfoldable pub extendedCells : ℕ → ℕ → ℕ → Record
 extendedCells width tag value = cond (eqb width 1) (cellsRecord 7 2 1 0 tag value 8 1) (cellsRecord 7 1 1 0 tag value 8 4)
 
--- both sides loaded, an operation of RAX and RCX by form and operation, and the store
-unfoldable pub pairRecords : List ℕ → VarId → IrOp → IrOp → ℕ → ℕ → List Record
-pairRecords offsets d l r form operation =
-    recordOf (load offsets RAX l (elfSize (d .ty))) ∷ recordOf (load offsets RCX r (elfSize (d .ty)))
-    ∷ cellsRecord form operation 1 0 1 1 (sizeCode (elfSize (d .ty))) 0 ∷ recordOf (store offsets d RAX) ∷ []
+-- RDX cleared, or RAX's sign extended into it
+unfoldable pub clearCells : Bool → ℕ → Record
+clearCells unsigned bytes = cond unsigned (cellsRecord 0 8 1 2 1 2 bytes 0) (cellsRecord 17 (cond (eqb bytes 4) 5 6) 0 0 0 0 bytes 0)
+
+unfoldable pub divideCells : Bool → ℕ → Record
+divideCells unsigned bytes = cellsRecord 4 (cond unsigned 3 5) 0 0 1 1 bytes 0
+
+-- the form and the operation of a record on RAX and RCX, by the operation's number
+abbrev pub pairForm : ℕ → ℕ
+pairForm op = cond (eqb op 15) 4 13
+
+abbrev pub pairCode : ℕ → Bool → ℕ
+pairCode op unsigned = cond (eqb op 15) 4 (shiftCode (shiftOp op unsigned))

@@ -1,11 +1,11 @@
-// The records of instructions on integers, by their cells.
+// The records of instructions on integers, by their cells. A size is a number of bytes, so that no cell is chosen by a jump.
 use crate::count_if;
+use crate::pick;
+use crate::short_width;
 use cells::cell_at;
+use ir::Type;
 use ir::read::type_at;
-use ir::read::var_at;
-use x86::enums::BinOp;
-use x86::enums::ConditionCode;
-use x86::enums::Size;
+use ir::types::element_width;
 use x86::record::Record;
 ghost use mathlib.Core.Path.{_≡_};
 ghost use mathlib.Core.Bool.{false, cond};
@@ -13,23 +13,21 @@ ghost use lib.Dec.{eqb};
 ghost use Prim.Native.Nat.{_+_, _≤_};
 ghost use lib.ListN.{getD};
 ghost use Rattle.cells.specs.Cells.{cells, minus};
-ghost use Rattle.ir.specs.Types.{elfSize, isUnsigned, operandSize};
+ghost use Rattle.ir.specs.Types.{isUnsigned, operandSize};
 ghost use Rattle.ir.specs.Function.{varAt, operandAt, unaryOp};
 ghost use Rattle.x86.specs.declared.enums.Operand.{Operand};
 ghost use Rattle.x86.specs.declared.enums.Instruction.{Instruction};
 ghost use Rattle.x86.specs.declared.enums.Size.{Size};
 ghost use Rattle.x86.specs.declared.enums.BinOp.{BinOp};
-ghost use Rattle.x86.specs.declared.enums.ShiftOp.{ShiftOp};
 ghost use Rattle.x86.specs.declared.enums.CtrlOp.{CtrlOp};
 ghost use Rattle.x86.specs.declared.enums.StackOp.{StackOp};
 ghost use Rattle.x86.specs.declared.enums.StringOp.{StringOp};
 ghost use Rattle.x86.specs.declared.enums.Prefix.{Prefix};
-ghost use Rattle.x86.specs.Registers.{gpr, xmm, RAX, RCX, RSP, RBP, RDI};
-ghost use Rattle.x86.specs.Records.{tagOf, valueOf, recordOf, cellsRecord, conditionCode, sizeCode, shiftCode};
+ghost use Rattle.x86.specs.Registers.{gpr, xmm, RAX, RSP, RBP, RDI};
+ghost use Rattle.x86.specs.Records.{tagOf, valueOf, recordOf, cellsRecord, sizeCode};
 ghost use Rattle.x86.specs.Says.{recordSays};
 ghost use Rattle.codegen.specs.Instructions.{move};
-ghost use Rattle.codegen.specs.Arithmetic.{unsignedCode};
-ghost use Rattle.integers.specs.Integers.{operandOf, slotOf, valueSize, valueUnsigned, load, store, loadCells, unaryRecord, extended, extendedCells, clearOrSign, divideBy};
+ghost use Rattle.integers.specs.Integers.{operandOf, slotOf, typeBytes, valueSize, valueUnsigned, load, store, loadCells, loadOf, operationCells, unaryCells, extended, extendedCells, clearCells, divideCells, unsignedNumber};
 
 // The pattern of minus a variable's offset.
 pub fn slot(offsets: &[u64], id: u64) -> u64
@@ -72,10 +70,14 @@ fn operand_value(offsets: &[u64], s: &[u8], k: usize) -> u64
     requires { ⌜ k + 4 ≤ cells (now s) ⌝ }
     ensures { λ r. ⌜ r ≡ valueOf (operandOf (now (offsets .entry)) (operandAt (now (s .entry)) k)) ⌝ }
 {
-    match cell_at(s, k) {
-        0 => slot(offsets, cell_at(s, k + 1)),
-        1 => cell_at(s, k + 1),
-        3 => truth(cell_at(s, k + 1)),
+    let kind = cell_at(s, k);
+    let first = cell_at(s, k + 1);
+    if kind == 0 {
+        return slot(offsets, first);
+    }
+    match kind {
+        1 => first,
+        3 => truth(first),
         _ => 0,
     }
 }
@@ -88,10 +90,10 @@ pub fn truth(n: u64) -> u64
 }
 
 // Whether a byte is loaded by Movzx: no constant is.
-fn is_widened(code: u64, tag: u64) -> bool
-    ensures { λ r. ⌜ r ≡ cond (eqb tag 2) false (eqb code 1) ⌝ }
+fn is_widened(bytes: u64, tag: u64) -> bool
+    ensures { λ r. ⌜ r ≡ cond (eqb tag 2) false (eqb bytes 1) ⌝ }
 {
-    if tag == 2 { false } else { code == 1 }
+    if tag == 2 { false } else { bytes == 1 }
 }
 
 // A constant of one byte is loaded by four.
@@ -101,31 +103,23 @@ fn byte_size(tag: u64) -> u64
     if tag == 2 { 4 } else { 8 }
 }
 
-fn load_size(code: u64, tag: u64) -> u64
-    ensures { λ r. ⌜ r ≡ cond (eqb code 1) (cond (eqb tag 2) 4 8) code ⌝ }
+fn load_size(bytes: u64, tag: u64) -> u64
+    ensures { λ r. ⌜ r ≡ cond (eqb bytes 1) (cond (eqb tag 2) 4 8) bytes ⌝ }
 {
     let byte = byte_size(tag);
-    if code == 1 { byte } else { code }
+    if bytes == 1 { byte } else { bytes }
 }
 
-// A load into a general register: one byte by Movzx, or by a four-byte Mov of a constant; the rest by Mov. Every cell is chosen, with no jump by the size.
-fn load_cells(reg: u64, tag: u64, value: u64, size: Size) -> Record
-    ensures { λ r. ⌜ recordSays r ≡ loadCells reg tag value size ⌝ }
+// A load into a general register: one byte by Movzx, or by a four-byte Mov of a constant; the rest by Mov.
+pub fn load_cells(reg: u64, tag: u64, value: u64, bytes: u64) -> Record
+    ensures { λ r. ⌜ recordSays r ≡ loadCells reg tag value bytes ⌝ }
 {
-    let code = size.code();
-    let widened = is_widened(code, tag);
+    let widened = is_widened(bytes, tag);
     let form = count_if(widened, 7);
     let operation = count_if(widened, 2);
     let source = count_if(widened, 1);
-    cells_record(
-        form,
-        operation,
-        reg,
-        tag,
-        value,
-        load_size(code, tag),
-        source,
-    )
+    let size = load_size(bytes, tag);
+    cells_record(form, operation, reg, tag, value, size, source)
 }
 
 pub fn cells_record(
@@ -152,12 +146,12 @@ pub fn cells_record(
 }
 
 // The operand at cell `k` into a general register.
-pub fn load(offsets: &[u64], s: &[u8], k: usize, reg: u64, size: Size) -> Record
+pub fn load(offsets: &[u64], s: &[u8], k: usize, reg: u64, bytes: u64) -> Record
     requires { ⌜ k + 4 ≤ cells (now s) ⌝ }
-    ensures { λ r. ⌜ recordSays r ≡ recordOf (load (now (offsets .entry)) (gpr reg) (operandAt (now (s .entry)) k) size) ⌝ }
+    ensures { λ r. ⌜ recordSays r ≡ loadOf (now (offsets .entry)) reg (operandAt (now (s .entry)) k) bytes ⌝ }
 {
     let tag = operand_tag(offsets, s, k);
-    load_cells(reg, tag, operand_value(offsets, s, k), size)
+    load_cells(reg, tag, operand_value(offsets, s, k), bytes)
 }
 
 // RAX into the variable at cell `k`.
@@ -173,7 +167,6 @@ pub fn store_from(offsets: &[u64], s: &[u8], k: usize, reg: u64) -> Record
     requires { ⌜ k + 3 ≤ cells (now s) ⌝ }
     ensures { λ r. ⌜ recordSays r ≡ recordOf (store (now (offsets .entry)) (varAt (now (s .entry)) k) (gpr reg)) ⌝ }
 {
-    let size = size_at(s, k);
     Record {
         form: 0,
         operation: 0,
@@ -181,54 +174,50 @@ pub fn store_from(offsets: &[u64], s: &[u8], k: usize, reg: u64) -> Record
         dst: slot(offsets, cell_at(s, k)),
         src_tag: 1,
         src: reg,
-        size: size.code(),
+        size: bytes_at(s, k),
         src_size: 0,
     }
 }
 
-// The size of a move that touches the variable at cell `k`.
-pub fn size_at(s: &[u8], k: usize) -> Size
-    requires { ⌜ k + 3 ≤ cells (now s) ⌝ }
-    ensures { λ r. ⌜ r ≡ elfSize (varAt (now (s .entry)) k .ty) ⌝ }
+// The bytes of a move that touches a variable of a type: an array has an address's.
+pub fn type_bytes(ty: Type) -> u64
+    ensures { λ r. ⌜ r ≡ typeBytes ty ⌝ }
 {
-    let ty = type_at(s, k + 1);
-    ty.to_elf_size()
+    if ty.count == Type::NO_ARRAY {
+        return element_width(ty.code);
+    }
+    8
+}
+
+// .. of the variable at cell `k`.
+pub fn bytes_at(s: &[u8], k: usize) -> u64
+    requires { ⌜ k + 3 ≤ cells (now s) ⌝ }
+    ensures { λ r. ⌜ r ≡ typeBytes (varAt (now (s .entry)) k .ty) ⌝ }
+{
+    type_bytes(type_at(s, k + 1))
 }
 
 // `op rax, right`, of the operand at cell `k`.
-pub fn operation(offsets: &[u64], s: &[u8], k: usize, op: BinOp, size: Size) -> Record
+pub fn operation(offsets: &[u64], s: &[u8], k: usize, code: u64, bytes: u64) -> Record
     requires { ⌜ k + 4 ≤ cells (now s) ⌝ }
-    ensures { λ r. ⌜ recordSays r ≡ recordOf (Instruction.Binary op (Operand.Reg RAX) (operandOf (now (offsets .entry)) (operandAt (now (s .entry)) k)) size) ⌝ }
+    ensures { λ r. ⌜ recordSays r ≡ operationCells (now (offsets .entry)) code (operandAt (now (s .entry)) k) bytes ⌝ }
 {
     let tag = operand_tag(offsets, s, k);
     let value = operand_value(offsets, s, k);
-    cells_record(0, op.code(), 0, tag, value, size.code(), 0)
+    cells_record(0, code, 0, tag, value, bytes, 0)
 }
 
-// `cmp rax, rcx`
-pub fn compare(size: Size) -> Record
-    ensures { λ r. ⌜ recordSays r ≡ recordOf (Instruction.Binary BinOp.Cmp (Operand.Reg RAX) (Operand.Reg RCX) size) ⌝ }
-{
-    cells_record(0, 9, 0, 1, 1, size.code(), 0)
-}
-
-// The size of a move of the value of the operand at cell `k`.
-pub fn value_size(s: &[u8], k: usize) -> Size
+// The bytes of a move of the value of the operand at cell `k`.
+pub fn value_bytes(s: &[u8], k: usize) -> u64
     requires { ⌜ k + 4 ≤ cells (now s) ⌝ }
-    ensures { λ r. ⌜ r ≡ valueSize (operandAt (now (s .entry)) k) ⌝ }
+    ensures { λ r. ⌜ r ≡ sizeCode (valueSize (operandAt (now (s .entry)) k)) ⌝ }
 {
     match cell_at(s, k) {
-        0 => size_at(s, k + 1),
-        1 => constant_size(cell_at(s, k + 2)),
-        3 => Size::U8,
-        _ => Size::U64,
+        0 => bytes_at(s, k + 1),
+        1 => short_width(cell_at(s, k + 2)),
+        3 => 1,
+        _ => 8,
     }
-}
-
-fn constant_size(short: u64) -> Size
-    ensures { λ r. ⌜ r ≡ cond (eqb short 1) Size.U32 Size.U64 ⌝ }
-{
-    if short == 1 { Size::U32 } else { Size::U64 }
 }
 
 // Whether the operand at cell `k` is compared as an unsigned one.
@@ -237,41 +226,33 @@ fn is_unsigned(s: &[u8], k: usize) -> bool
     ensures { λ r. ⌜ r ≡ valueUnsigned (operandAt (now (s .entry)) k) ⌝ }
 {
     match cell_at(s, k) {
-        0 => {
-            let v = var_at(s, k + 1);
-            let ty = v.ty;
-            ty.is_unsigned()
-        }
+        0 => is_unsigned_var(s, k + 1),
         1 => cell_at(s, k + 3) == 1,
         _ => true,
     }
 }
 
-// A condition code's number, of the unsigned code where it is asked for.
-fn flag_code(cc: ConditionCode, unsigned: bool) -> u64
-    ensures { λ r. ⌜ r ≡ conditionCode (cond unsigned (unsignedCode cc) cc) ⌝ }
+// The number of an unsigned code.
+fn unsigned_number(code: u64) -> u64
+    ensures { λ r. ⌜ r ≡ unsignedNumber code ⌝ }
 {
-    let code = cc.code();
-    if unsigned {
-        match code {
-            2 => 6,
-            3 => 7,
-            4 => 8,
-            5 => 9,
-            _ => code,
-        }
-    } else {
-        code
+    match code {
+        2 => 6,
+        3 => 7,
+        4 => 8,
+        5 => 9,
+        _ => code,
     }
 }
 
 // The flag of a comparison, signed or unsigned by the operand at cell `k`, into RAX.
-pub fn set(s: &[u8], k: usize, cc: ConditionCode) -> Record
+pub fn set(s: &[u8], k: usize, code: u64) -> Record
     requires { ⌜ k + 4 ≤ cells (now s) ⌝ }
-    ensures { λ r. ⌜ recordSays r ≡ recordOf (Instruction.SetCC (cond (valueUnsigned (operandAt (now (s .entry)) k)) (unsignedCode cc) cc) (Operand.Reg RAX)) ⌝ }
+    ensures { λ r. ⌜ recordSays r ≡ cellsRecord 12 (cond (valueUnsigned (operandAt (now (s .entry)) k)) (unsignedNumber code) code) 1 0 0 0 0 0 ⌝ }
 {
     let unsigned = is_unsigned(s, k);
-    cells_record(12, flag_code(cc, unsigned), 0, 0, 0, 0, 0)
+    let flag = pick(unsigned, unsigned_number(code), code);
+    cells_record(12, flag, 0, 0, 0, 0, 0)
 }
 
 // `cmp al, 0`
@@ -298,30 +279,20 @@ pub fn label_record(form: u64, operation: u64, label: u64) -> Record
 }
 
 // `op rax, rcx`, by form and operation.
-pub fn pair(form: u64, operation: u64, size: Size) -> Record
-    ensures { λ r. ⌜ recordSays r ≡ cellsRecord form operation 1 0 1 1 (sizeCode size) 0 ⌝ }
+pub fn pair(form: u64, operation: u64, bytes: u64) -> Record
+    ensures { λ r. ⌜ recordSays r ≡ cellsRecord form operation 1 0 1 1 bytes 0 ⌝ }
 {
-    cells_record(form, operation, 0, 1, 1, size.code(), 0)
-}
-
-// The code of a right shift of the variable at cell `k`: Shr, or Sar for a signed one.
-pub fn right_shift(s: &[u8], k: usize) -> u64
-    requires { ⌜ k + 3 ≤ cells (now s) ⌝ }
-    ensures { λ r. ⌜ r ≡ shiftCode (cond (isUnsigned (varAt (now (s .entry)) k .ty)) ShiftOp.Shr ShiftOp.Sar) ⌝ }
-{
-    let ty = type_at(s, k + 1);
-    if ty.is_unsigned() { 1 } else { 2 }
+    cells_record(form, operation, 0, 1, 1, bytes, 0)
 }
 
 // The record of a unary operation, by its number.
-pub fn unary_record(op: u64, size: Size) -> Record
-    ensures { λ r. ⌜ recordSays r ≡ recordOf (unaryRecord (unaryOp op) size) ⌝ }
+pub fn unary_record(op: u64, bytes: u64) -> Record
+    ensures { λ r. ⌜ recordSays r ≡ unaryCells (unaryOp op) bytes ⌝ }
 {
-    let code = size.code();
     match op {
-        0 => cells_record(17, 0, 0, 0, 0, code, 0),
-        1 => cells_record(17, 1, 0, 0, 0, code, 0),
-        _ => cells_record(0, 8, 0, 2, 1, code, 0),
+        0 => cells_record(17, 0, 0, 0, 0, bytes, 0),
+        1 => cells_record(17, 1, 0, 0, 0, bytes, 0),
+        _ => cells_record(0, 8, 0, 2, 1, bytes, 0),
     }
 }
 
@@ -352,17 +323,13 @@ pub fn rax_widened(width: u64) -> Record
 }
 
 // RDX cleared for an unsigned division, else RAX's sign extended into it.
-pub fn clear_or_sign(unsigned: bool, size: Size) -> Record
-    ensures { λ r. ⌜ recordSays r ≡ recordOf (clearOrSign unsigned size) ⌝ }
+pub fn clear_or_sign(unsigned: bool, bytes: u64) -> Record
+    ensures { λ r. ⌜ recordSays r ≡ clearCells unsigned bytes ⌝ }
 {
-    let code = size.code();
     if unsigned {
-        return cells_record(0, 8, 2, 1, 2, code, 0);
+        return cells_record(0, 8, 2, 1, 2, bytes, 0);
     }
-    if code == 4 {
-        return no_operands(17, 5, code);
-    }
-    no_operands(17, 6, code)
+    no_operands(17, pick(bytes == 4, 5, 6), bytes)
 }
 
 // A record without operands.
@@ -382,27 +349,17 @@ fn no_operands(form: u64, operation: u64, size: u64) -> Record
 }
 
 // `div rcx`, or `idiv rcx`
-pub fn divide_by(unsigned: bool, size: Size) -> Record
-    ensures { λ r. ⌜ recordSays r ≡ recordOf (divideBy unsigned size) ⌝ }
-{
-    let code = size.code();
-    if unsigned {
-        return by_rcx(3, code);
-    }
-    by_rcx(5, code)
-}
-
-fn by_rcx(operation: u64, size: u64) -> Record
-    ensures { λ r. ⌜ recordSays r ≡ cellsRecord 4 operation 0 0 1 1 size 0 ⌝ }
+pub fn divide_by(unsigned: bool, bytes: u64) -> Record
+    ensures { λ r. ⌜ recordSays r ≡ divideCells unsigned bytes ⌝ }
 {
     Record {
         form: 4,
-        operation,
+        operation: pick(unsigned, 3, 5),
         dst_tag: 0,
         dst: 0,
         src_tag: 1,
         src: 1,
-        size,
+        size: bytes,
         src_size: 0,
     }
 }
@@ -438,19 +395,19 @@ pub fn rep_stosb() -> Record
     no_operands(11, 20, 1)
 }
 
-// The size of an operand where none is given: its own, and none for Null.
-fn operand_size(s: &[u8], k: usize) -> Size
+// The bytes of an operand where no size is given: its own, and none for Null.
+fn operand_bytes(s: &[u8], k: usize) -> u64
     requires { ⌜ k + 4 ≤ cells (now s) ⌝ }
-    ensures { λ r. ⌜ r ≡ operandSize (operandAt (now (s .entry)) k) ⌝ }
+    ensures { λ r. ⌜ r ≡ sizeCode (operandSize (operandAt (now (s .entry)) k)) ⌝ }
 {
     match cell_at(s, k) {
-        0 => size_at(s, k + 1),
-        1 => constant_size(cell_at(s, k + 2)),
-        2 => Size::U64,
-        3 => Size::U8,
-        4 => Size::U64,
-        5 => Size::U64,
-        _ => Size::NoSize,
+        0 => bytes_at(s, k + 1),
+        1 => short_width(cell_at(s, k + 2)),
+        2 => 8,
+        3 => 1,
+        4 => 8,
+        5 => 8,
+        _ => 0,
     }
 }
 
@@ -459,12 +416,12 @@ pub fn return_value(offsets: &[u64], s: &[u8], k: usize, float: bool) -> Record
     requires { ⌜ k + 4 ≤ cells (now s) ⌝ }
     ensures { λ r. ⌜ recordSays r ≡ recordOf (load (now (offsets .entry)) (cond float (xmm 0) RAX) (operandAt (now (s .entry)) k) (operandSize (operandAt (now (s .entry)) k))) ⌝ }
 {
-    let size = operand_size(s, k);
+    let bytes = operand_bytes(s, k);
     if float {
         let tag = operand_tag(offsets, s, k);
-        return cells_record(0, 11, 16, tag, operand_value(offsets, s, k), size.code(), 0);
+        return cells_record(0, 11, 16, tag, operand_value(offsets, s, k), bytes, 0);
     }
-    load(offsets, s, k, 0, size)
+    load(offsets, s, k, 0, bytes)
 }
 
 // `mov rsp, rbp`

@@ -1,6 +1,5 @@
 use Rattle.integers.specs.Integers.{binaryCount}
 use Rattle.integers.proofs.Rest.{five-records}
-use borrow.Author.Needs.{needs}
 use Rattle.integers.proofs.binary_count.Statement.{statement}
 use Rattle.integers.proofs.binary_count.Tie as tie
 

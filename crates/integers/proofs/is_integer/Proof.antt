@@ -1,6 +1,5 @@
 use Rattle.integers.specs.Integers.{isInteger}
 use Rattle.integers.proofs.Rest.{no-integer}
-use borrow.Author.Needs.{needs}
 use Rattle.integers.proofs.is_integer.Statement.{statement}
 use Rattle.integers.proofs.is_integer.Tie as tie
 

@@ -1,6 +1,6 @@
-use Rattle.ir.specs.Function.{operandAt}
-use Rattle.integers.specs.Integers.{valueUnsigned}
 use Rattle.integers.proofs.Forms.{unsigned-constant}
+use Rattle.integers.specs.Integers.{valueUnsigned}
+use Rattle.ir.specs.Function.{operandAt}
 use borrow.Author.Needs.{needs}
 use Rattle.integers.proofs.cellwise.is_unsigned.Statement.{statement}
 use Rattle.integers.proofs.cellwise.is_unsigned.Tie as tie
@@ -8,14 +8,11 @@ use Rattle.integers.proofs.cellwise.is_unsigned.Tie as tie
 cell-at-requires : tie.Need-cell-at-requires
 cell-at-requires c κs = search needs
 
-add-var-at : tie.Need-add-var-at
-add-var-at c = search needs
+add-is-unsigned-var : tie.Need-add-is-unsigned-var
+add-is-unsigned-var c = search needs
 
-var-at-requires : tie.Need-var-at-requires
-var-at-requires c κs = search needs
-
-is-unsigned-requires : tie.Need-is-unsigned-requires
-is-unsigned-requires c κs = search needs
+is-unsigned-var-requires : tie.Need-is-unsigned-var-requires
+is-unsigned-var-requires c κs = search needs
 
 add-cell-at : tie.Need-add-cell-at
 add-cell-at c = search needs
@@ -25,7 +22,7 @@ cell-at-requires-2 c κs = search needs
 
 returns : tie.Need-returns
 unfolding operandAt valueUnsigned
-returns c = simp (← c .before .before .before .before .cell-at .ensures, c .before .before .before .match .keys1, c .is-unsigned .ensures, c .before .before .var-at .ensures)
+returns c = simp (← c .before .before .cell-at .ensures, c .before .match .keys1, c .is-unsigned-var .ensures)
 
 returns-2 : tie.Need-returns-2
 unfolding operandAt valueUnsigned
@@ -35,4 +32,14 @@ returns-3 : tie.Need-returns-3
 returns-3 c = unsigned-constant _ _ (rw (← c .before .cell-at .ensures) (c .match .rest .0 .1)) (rw (← c .before .cell-at .ensures) (c .match .rest .1))
 
 pub is-unsigned-spec : {M : Type 1} → statement M
-is-unsigned-spec = tie.close (tie.spec cell-at-requires add-var-at var-at-requires is-unsigned-requires add-cell-at cell-at-requires-2 returns returns-2 returns-3)
+is-unsigned-spec =
+    tie.close
+    (tie.spec
+    cell-at-requires
+    add-is-unsigned-var
+    is-unsigned-var-requires
+    add-cell-at
+    cell-at-requires-2
+    returns
+    returns-2
+    returns-3)

@@ -15,4 +15,5 @@ returns : tie.Need-returns
 returns c = simp (← c .before .type-at .ensures, c .is-unsigned .ensures)
 
 pub is-unsigned-var-spec : {M : Type 1} → statement M
-is-unsigned-var-spec = tie.close (tie.spec add-type-at type-at-requires is-unsigned-requires returns)
+is-unsigned-var-spec =
+    tie.close (tie.spec add-type-at type-at-requires is-unsigned-requires returns)

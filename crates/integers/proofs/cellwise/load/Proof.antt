@@ -1,5 +1,4 @@
 use mathlib.Core.Path.{_∙_}
-use Rattle.integers.proofs.Forms.{load-record}
 use borrow.Author.Needs.{needs}
 use Rattle.integers.proofs.cellwise.load.Statement.{statement}
 use Rattle.integers.proofs.cellwise.load.Tie as tie
@@ -14,7 +13,8 @@ load-cells-requires : tie.Need-load-cells-requires
 load-cells-requires c κs = search needs
 
 returns : tie.Need-returns
-returns c = c .load-cells .ensures ∙ rw (c .before .before .operand-tag .ensures, c .before .operand-value .ensures) (load-record _ _ _)
+returns c = c .load-cells .ensures ∙ simp (c .before .before .operand-tag .ensures, c .before .operand-value .ensures)
 
 pub load-spec : {M : Type 1} → statement M
-load-spec = tie.close (tie.spec operand-tag-requires operand-value-requires load-cells-requires returns)
+load-spec =
+    tie.close (tie.spec operand-tag-requires operand-value-requires load-cells-requires returns)

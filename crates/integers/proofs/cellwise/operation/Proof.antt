@@ -1,4 +1,3 @@
-use Rattle.x86.specs.Records.{recordOf}
 use borrow.Author.Needs.{needs}
 use Rattle.integers.proofs.cellwise.operation.Statement.{statement}
 use Rattle.integers.proofs.cellwise.operation.Tie as tie
@@ -9,18 +8,12 @@ operand-tag-requires c κs = search needs
 operand-value-requires : tie.Need-operand-value-requires
 operand-value-requires c κs = search needs
 
-code-requires : tie.Need-code-requires
-code-requires c κs = search needs
-
-code-requires-2 : tie.Need-code-requires-2
-code-requires-2 c κs = search needs
-
 cells-record-requires : tie.Need-cells-record-requires
 cells-record-requires c κs = search needs
 
 returns : tie.Need-returns
-unfolding recordOf
-returns c = simp (c .cells-record .ensures, c .before .code2 .ensures, c .before .before .code .ensures, c .before .before .before .operand-value .ensures, c .before .before .before .before .operand-tag .ensures)
+returns c = simp (c .cells-record .ensures, c .before .operand-value .ensures, c .before .before .operand-tag .ensures)
 
 pub operation-spec : {M : Type 1} → statement M
-operation-spec = tie.close (tie.spec operand-tag-requires operand-value-requires code-requires code-requires-2 cells-record-requires returns)
+operation-spec =
+    tie.close (tie.spec operand-tag-requires operand-value-requires cells-record-requires returns)

@@ -1,8 +1,8 @@
-use Prim.Native.Nat.{_+_}
-use mathlib.Core.Path.{sym, _∙_}
-use borrow.Author.Tests.{eq-eqb, ne-eqb, le-leb, lt-leb}
+use Rattle.integers.specs.Integers.{castList}
 use Rattle.integers.proofs.Rest.{is-var}
-use Rattle.integers.specs.Integers.{castList, copyList, widenedList, constantList}
+use borrow.Author.Tests.{eq-eqb, ne-eqb, le-leb, lt-leb}
+use mathlib.Core.Path.{sym, _∙_}
+use Prim.Native.Nat.{_+_}
 use borrow.Author.Needs.{needs}
 use Rattle.integers.proofs.lists.put_cast.Statement.{statement}
 use Rattle.integers.proofs.lists.put_cast.Tie as tie
@@ -20,16 +20,15 @@ value-width-requires : tie.Need-value-width-requires
 value-width-requires c κs = search needs
 
 put-copy-requires : tie.Need-put-copy-requires
-put-copy-requires c κs = search needs
+unfolding castList
+put-copy-requires c κs = (c .before .before .before .before .before .before .before .pre .0, rw (le-leb _ _ (rw (c .before .before .before .var-width .ensures, c .before .before .value-width .ensures) at (c .before .if1 .taken))) at (c .before .before .before .before .before .before .before .pre .1))
 
 same-length : tie.Need-same-length
 same-length c = search needs
 
 returns : tie.Need-returns
-unfolding castList copyList
-returns c =
-    let e = c .before .before .put-copy .ensures in
-    simp (le-leb _ _ (rw (c .before .before .before .before .before .before .var-width .ensures, c .before .before .before .before .before .value-width .ensures) at (c .before .before .before .before .if1 .taken))) (e .0, e .1)
+unfolding castList
+returns c = rw (le-leb _ _ (rw (c .before .before .before .before .before .before .var-width .ensures, c .before .before .before .before .before .value-width .ensures) at (c .before .before .before .before .if1 .taken))) (c .before .before .put-copy .ensures)
 
 add-cell-at : tie.Need-add-cell-at
 add-cell-at c = search needs
@@ -38,30 +37,34 @@ cell-at-requires : tie.Need-cell-at-requires
 cell-at-requires c κs = search needs
 
 put-widened-requires : tie.Need-put-widened-requires
-put-widened-requires c κs = search needs
+unfolding castList
+put-widened-requires c κs =
+    let a = c .before .before .before .before .before .before .before .before .before .args in
+    (c .before .before .before .before .before .before .before .before .before .pre .0, rw (lt-leb _ _ (rw (c .before .before .before .before .before .var-width .ensures, c .before .before .before .before .value-width .ensures) at (c .before .before .before .if1 .left)), ← is-var (a .s .now) (a .k + 5), eq-eqb _ _ (sym (c .before .before .cell-at .ensures) ∙ c .before .if2 .taken)) at (c .before .before .before .before .before .before .before .before .before .pre .1))
 
 same-length-2 : tie.Need-same-length-2
 same-length-2 c = search needs
 
 returns-2 : tie.Need-returns-2
-unfolding castList widenedList
+unfolding castList
 returns-2 c =
-    let e = c .before .before .put-widened .ensures in
     let a = c .before .before .before .before .before .before .before .before .before .before .before .before .args in
-    simp (lt-leb _ _ (rw (c .before .before .before .before .before .before .before .before .var-width .ensures, c .before .before .before .before .before .before .before .value-width .ensures) at (c .before .before .before .before .before .before .if1 .left)), ← is-var (a .s .now) (a .k + 5), eq-eqb _ _ (sym (c .before .before .before .before .before .cell-at .ensures) ∙ c .before .before .before .before .if2 .taken)) (e .0, e .1)
+    rw (lt-leb _ _ (rw (c .before .before .before .before .before .before .before .before .var-width .ensures, c .before .before .before .before .before .before .before .value-width .ensures) at (c .before .before .before .before .before .before .if1 .left)), ← is-var (a .s .now) (a .k + 5), eq-eqb _ _ (sym (c .before .before .before .before .before .cell-at .ensures) ∙ c .before .before .before .before .if2 .taken)) (c .before .before .put-widened .ensures)
 
 put-constant-requires : tie.Need-put-constant-requires
-put-constant-requires c κs = search needs
+unfolding castList
+put-constant-requires c κs =
+    let a = c .before .before .before .before .before .before .before .before .before .args in
+    (c .before .before .before .before .before .before .before .before .before .pre .0, rw (lt-leb _ _ (rw (c .before .before .before .before .before .var-width .ensures, c .before .before .before .before .value-width .ensures) at (c .before .before .before .if1 .left)), ← is-var (a .s .now) (a .k + 5), ne-eqb _ _ (λ z. c .before .if2 .left (c .before .before .cell-at .ensures ∙ z))) at (c .before .before .before .before .before .before .before .before .before .pre .1))
 
 same-length-3 : tie.Need-same-length-3
 same-length-3 c = search needs
 
 returns-3 : tie.Need-returns-3
-unfolding castList constantList
+unfolding castList
 returns-3 c =
-    let e = c .before .before .put-constant .ensures in
     let a = c .before .before .before .before .before .before .before .before .before .before .before .before .args in
-    simp (lt-leb _ _ (rw (c .before .before .before .before .before .before .before .before .var-width .ensures, c .before .before .before .before .before .before .before .value-width .ensures) at (c .before .before .before .before .before .before .if1 .left)), ← is-var (a .s .now) (a .k + 5), ne-eqb _ _ (λ z. c .before .before .before .before .if2 .left (c .before .before .before .before .before .cell-at .ensures ∙ z))) (e .0, e .1)
+    rw (lt-leb _ _ (rw (c .before .before .before .before .before .before .before .before .var-width .ensures, c .before .before .before .before .before .before .before .value-width .ensures) at (c .before .before .before .before .before .before .if1 .left)), ← is-var (a .s .now) (a .k + 5), ne-eqb _ _ (λ z. c .before .before .before .before .if2 .left (c .before .before .before .before .before .cell-at .ensures ∙ z))) (c .before .before .put-constant .ensures)
 
 pub put-cast-spec : {M : Type 1} → statement M
 put-cast-spec = tie.close (tie.spec add-var-width var-width-requires add-value-width value-width-requires put-copy-requires same-length returns add-cell-at cell-at-requires put-widened-requires same-length-2 returns-2 put-constant-requires same-length-3 returns-3)

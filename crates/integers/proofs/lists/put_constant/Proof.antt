@@ -1,25 +1,19 @@
-use Rattle.x86.specs.Records.{listBytes, recordOf}
-use Rattle.records.specs.Records.{bytesOfRecords}
-use mathlib.Core.Path.{refl}
-use Rattle.integers.specs.Integers.{constantList}
+use Rattle.integers.proofs.Wrote.{three-records, load-is}
+use Rattle.integers.specs.Integers.{leftOp, valueSize, constantList}
+use mathlib.Core.Path.{_∙_}
+use native.Mathlib.Omega.{arith}
 use borrow.Author.Needs.{needs}
 use Rattle.integers.proofs.lists.put_constant.Statement.{statement}
 use Rattle.integers.proofs.lists.put_constant.Tie as tie
 
-add-store : tie.Need-add-store
-add-store c = search needs
-
-store-requires : tie.Need-store-requires
-store-requires c κs = search needs
-
 add-load : tie.Need-add-load
 add-load c = search needs
 
-add-value-size : tie.Need-add-value-size
-add-value-size c = search needs
+add-value-bytes : tie.Need-add-value-bytes
+add-value-bytes c = search needs
 
-value-size-requires : tie.Need-value-size-requires
-value-size-requires c κs = search needs
+value-bytes-requires : tie.Need-value-bytes-requires
+value-bytes-requires c κs = search needs
 
 load-requires : tie.Need-load-requires
 load-requires c κs = search needs
@@ -33,15 +27,39 @@ value-width-requires c κs = search needs
 rax-widened-requires : tie.Need-rax-widened-requires
 rax-widened-requires c κs = search needs
 
+add-store : tie.Need-add-store
+add-store c = search needs
+
+store-requires : tie.Need-store-requires
+store-requires c κs = search needs
+
 put-three-requires : tie.Need-put-three-requires
-put-three-requires c κs = c .before .before .before .before .before .before .before .before .before .pre .1
+unfolding constantList
+put-three-requires c κs = omega (arith, c .before .before .before .before .before .before .before .before .before .pre .1)
 
 same-length : tie.Need-same-length
 same-length c = search needs
 
 returns : tie.Need-returns
-unfolding constantList listBytes bytesOfRecords
-returns c = (refl, simp (c .before .before .put-three .ensures, c .before .before .before .before .rax-widened .ensures, c .before .before .before .before .before .value-width .ensures, c .before .before .before .before .before .before .load .ensures, c .before .before .before .before .before .before .before .value-size .ensures, c .before .before .before .before .before .before .before .before .store .ensures))
+unfolding constantList
+returns c =
+    let a = c .before .before .before .before .before .before .before .before .before .before .before .before .args in
+    let x = leftOp (a .s .now) (a .k) in
+    three-records (c .before .before .put-three .ensures) (load-is (a .offsets .now) 0 x (valueSize x) (c .before .before .before .before .before .before .before .before .value-bytes .ensures) (c .before .before .before .before .before .before .before .load .ensures)) (c .before .before .before .before .before .rax-widened .ensures ∙ simp (c .before .before .before .before .before .before .value-width .ensures)) (c .before .before .before .store .ensures)
 
 pub put-constant-spec : {M : Type 1} → statement M
-put-constant-spec = tie.close (tie.spec add-store store-requires add-load add-value-size value-size-requires load-requires add-value-width value-width-requires rax-widened-requires put-three-requires same-length returns)
+put-constant-spec =
+    tie.close
+    (tie.spec
+    add-load
+    add-value-bytes
+    value-bytes-requires
+    load-requires
+    add-value-width
+    value-width-requires
+    rax-widened-requires
+    add-store
+    store-requires
+    put-three-requires
+    same-length
+    returns)

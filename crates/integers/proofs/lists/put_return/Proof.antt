@@ -1,7 +1,6 @@
-use Rattle.x86.specs.Records.{listBytes, recordOf}
-use Rattle.records.specs.Records.{bytesOfRecords}
-use mathlib.Core.Path.{refl}
+use Rattle.integers.proofs.Wrote.{four-records}
 use Rattle.integers.specs.Integers.{returnList}
+use native.Mathlib.Omega.{arith}
 use borrow.Author.Needs.{needs}
 use Rattle.integers.proofs.lists.put_return.Statement.{statement}
 use Rattle.integers.proofs.lists.put_return.Tie as tie
@@ -22,14 +21,25 @@ ret-requires : tie.Need-ret-requires
 ret-requires c κs = search needs
 
 put-four-requires : tie.Need-put-four-requires
-put-four-requires c κs = c .before .before .before .before .before .before .before .before .pre .1
+unfolding returnList
+put-four-requires c κs = omega (arith, c .before .before .before .before .before .before .before .before .pre .1)
 
 same-length : tie.Need-same-length
 same-length c = search needs
 
 returns : tie.Need-returns
-unfolding returnList listBytes bytesOfRecords
-returns c = (refl, simp (c .before .before .put-four .ensures, c .before .before .before .ret .ensures, c .before .before .before .before .pop-rbp .ensures, c .before .before .before .before .before .frame-left .ensures, c .before .before .before .before .before .before .before .return-value .ensures))
+unfolding returnList
+returns c = four-records (c .before .before .put-four .ensures) (c .before .before .before .before .before .before .before .return-value .ensures) (c .before .before .before .before .before .frame-left .ensures) (c .before .before .before .before .pop-rbp .ensures) (c .before .before .before .ret .ensures)
 
 pub put-return-spec : {M : Type 1} → statement M
-put-return-spec = tie.close (tie.spec add-return-value return-value-requires frame-left-requires pop-rbp-requires ret-requires put-four-requires same-length returns)
+put-return-spec =
+    tie.close
+    (tie.spec
+    add-return-value
+    return-value-requires
+    frame-left-requires
+    pop-rbp-requires
+    ret-requires
+    put-four-requires
+    same-length
+    returns)

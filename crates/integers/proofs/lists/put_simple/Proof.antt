@@ -1,16 +1,27 @@
-use Rattle.x86.specs.Records.{listBytes, recordOf}
-use Rattle.records.specs.Records.{bytesOfRecords}
-use Rattle.integers.specs.Integers.{simpleList}
-use mathlib.Core.Path.{refl}
+use Rattle.integers.proofs.Wrote.{three-records, load-is}
+use Rattle.integers.specs.Integers.{destVar, leftOp, simpleList}
+use Rattle.x86.specs.Records.{recordOf}
+use Rattle.ir.specs.Types.{elfSize}
+use mathlib.Core.Path.{_∙_}
+use native.Mathlib.Omega.{arith}
 use borrow.Author.Needs.{needs}
 use Rattle.integers.proofs.lists.put_simple.Statement.{statement}
 use Rattle.integers.proofs.lists.put_simple.Tie as tie
 
-add-size-at : tie.Need-add-size-at
-add-size-at c = search needs
+add-bytes-at : tie.Need-add-bytes-at
+add-bytes-at c = search needs
 
-size-at-requires : tie.Need-size-at-requires
-size-at-requires c κs = search needs
+bytes-at-requires : tie.Need-bytes-at-requires
+bytes-at-requires c κs = search needs
+
+add-cell-at : tie.Need-add-cell-at
+add-cell-at c = search needs
+
+cell-at-requires : tie.Need-cell-at-requires
+cell-at-requires c κs = search needs
+
+simple-code-requires : tie.Need-simple-code-requires
+simple-code-requires c κs = search needs
 
 add-load : tie.Need-add-load
 add-load c = search needs
@@ -31,14 +42,36 @@ store-requires : tie.Need-store-requires
 store-requires c κs = search needs
 
 put-three-requires : tie.Need-put-three-requires
-put-three-requires c κs = search needs
+unfolding simpleList
+put-three-requires c κs = omega (arith, c .before .before .before .before .before .before .before .before .before .before .pre .1)
 
 same-length : tie.Need-same-length
 same-length c = search needs
 
 returns : tie.Need-returns
-unfolding simpleList listBytes bytesOfRecords
-returns c = (refl, simp (c .before .before .put-three .ensures, c .before .before .before .store .ensures, c .before .before .before .before .before .operation .ensures, c .before .before .before .before .before .before .load .ensures, c .before .before .before .before .before .before .before .size-at .ensures))
+unfolding simpleList recordOf
+returns c =
+    let a = c .before .before .before .before .before .before .before .before .before .before .before .before .before .args in
+    three-records (c .before .before .put-three .ensures)
+    (load-is (a .offsets .now) 0 (leftOp (a .s .now) (a .k)) (elfSize (destVar (a .s .now) (a .k) .ty)) (c .before .before .before .before .before .before .before .before .before .bytes-at .ensures) (c .before .before .before .before .before .before .load .ensures))
+    (c .before .before .before .before .before .operation .ensures ∙ simp (c .before .before .before .before .before .before .before .simple-code .ensures, c .before .before .before .before .before .before .before .before .cell-at .ensures, c .before .before .before .before .before .before .before .before .before .bytes-at .ensures))
+    (c .before .before .before .store .ensures)
 
 pub put-simple-spec : {M : Type 1} → statement M
-put-simple-spec = tie.close (tie.spec add-size-at size-at-requires add-load load-requires add-operation operation-requires add-store store-requires put-three-requires same-length returns)
+put-simple-spec =
+    tie.close
+    (tie.spec
+    add-bytes-at
+    bytes-at-requires
+    add-cell-at
+    cell-at-requires
+    simple-code-requires
+    add-load
+    load-requires
+    add-operation
+    operation-requires
+    add-store
+    store-requires
+    put-three-requires
+    same-length
+    returns)

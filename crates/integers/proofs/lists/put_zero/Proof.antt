@@ -1,7 +1,7 @@
-use Rattle.x86.specs.Records.{listBytes, recordOf}
-use Rattle.records.specs.Records.{bytesOfRecords}
-use mathlib.Core.Path.{refl}
+use Rattle.integers.proofs.Wrote.{four-records}
 use Rattle.integers.specs.Integers.{zeroList}
+use mathlib.Core.Path.{_∙_}
+use native.Mathlib.Omega.{arith}
 use borrow.Author.Needs.{needs}
 use Rattle.integers.proofs.lists.put_zero.Statement.{statement}
 use Rattle.integers.proofs.lists.put_zero.Tie as tie
@@ -28,14 +28,27 @@ rep-stosb-requires : tie.Need-rep-stosb-requires
 rep-stosb-requires c κs = search needs
 
 put-four-requires : tie.Need-put-four-requires
-put-four-requires c κs = c .before .before .before .before .before .before .before .before .before .pre .1
+unfolding zeroList
+put-four-requires c κs = omega (arith, c .before .before .before .before .before .before .before .before .before .pre .1)
 
 same-length : tie.Need-same-length
 same-length c = search needs
 
 returns : tie.Need-returns
-unfolding zeroList listBytes bytesOfRecords
-returns c = (refl, simp (c .before .before .put-four .ensures, c .before .before .before .rep-stosb .ensures, c .before .before .before .before .constant2 .ensures, c .before .before .before .before .before .before .constant .ensures, c .before .before .before .before .before .before .before .var-width .ensures, c .before .before .before .before .before .before .before .before .lea-rdi .ensures))
+unfolding zeroList
+returns c = four-records (c .before .before .put-four .ensures) (c .before .before .before .before .before .before .before .before .lea-rdi .ensures) (c .before .before .before .before .before .before .constant .ensures ∙ simp (c .before .before .before .before .before .before .before .var-width .ensures)) (c .before .before .before .before .constant2 .ensures) (c .before .before .before .rep-stosb .ensures)
 
 pub put-zero-spec : {M : Type 1} → statement M
-put-zero-spec = tie.close (tie.spec add-lea-rdi lea-rdi-requires add-var-width var-width-requires constant-requires constant-requires-2 rep-stosb-requires put-four-requires same-length returns)
+put-zero-spec =
+    tie.close
+    (tie.spec
+    add-lea-rdi
+    lea-rdi-requires
+    add-var-width
+    var-width-requires
+    constant-requires
+    constant-requires-2
+    rep-stosb-requires
+    put-four-requires
+    same-length
+    returns)
