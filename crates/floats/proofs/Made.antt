@@ -26,12 +26,17 @@ use Rattle.codegen.specs.Arithmetic.{floatOperation, compared, floatComparison,
 use Rattle.codegen.specs.Generation.{generateInstr}
 use Rattle.utils.specs.Answers.{counted}
 use Rattle.integers.specs.Integers.{isIntegerVar, slotOf, operandOf, store, copyList}
-use Rattle.integers.proofs.Quick.{first, second, size-of-code, width-known, integral, holds, Some}
+use Rattle.integers.proofs.Quick.{first, second, size-of-code, width-known, integral, Some}
 use Rattle.integers.proofs.Quick.{sized as int-sized}
 use Rattle.floats.specs.Floats.{isFloatCode, isFloatVar, isOperation, isComparison, ofVar, operationCount, comparedCount, pairCount, copyCount, toFloatCount, castCount, floatCount}
 use Rattle.floats.specs.Floats.{floatSize, floatOp, operationList, comparedSides, orderedList, equalList, comparedFloats, binaryFloats, resizedList, toFloatList, fromFloatList, castFloats, openFloats, floatList}
 use Rattle.floats.proofs.Codes.{code-is, has-width, size-is, elf-is, eight-bytes, copies, stands, operation-is, op-done, Comparison, eq, ne, lt, le, gt, ge, comparison-is}
 use Rattle.floats.proofs.Cells.{as-operation, as-comparison, operation-floats, comparison-floats, copied, resized, to-float, from-float}
+
+-- where the count is not 0 its condition holds
+holds : (b : Bool) (n : ℕ) → (cond b n 0 ≡ 0 → ⊥) → b ≡ true
+holds true n h = refl
+holds false n h = absurd (h refl)
 
 -- ---- variables
 

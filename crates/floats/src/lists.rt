@@ -2,9 +2,9 @@
 use crate::count_float;
 use crate::is_float_code;
 use cells::cell_at;
+use integers::cellwise::bytes_at;
 use integers::cellwise::cells_record;
 use integers::cellwise::pair;
-use integers::cellwise::size_at;
 use integers::cellwise::slot;
 use integers::cellwise::store;
 use integers::lists::put_copy;
@@ -14,7 +14,6 @@ use records::put_three;
 use records::put_two;
 use x86::enums::BinOp;
 use x86::enums::ConditionCode;
-use x86::enums::Size;
 use x86::record::Record;
 use x86::record::put_record;
 ghost use mathlib.Core.Path.{_≡_};
@@ -33,7 +32,7 @@ ghost use Rattle.x86.specs.Registers.{gpr, RAX};
 ghost use Rattle.x86.specs.Says.{recordSays};
 ghost use Rattle.x86.specs.Records.{sizeCode, listBytes, cellsRecord, recordOf};
 ghost use Rattle.records.specs.Records.{recordsOf, bytesOfRecords};
-ghost use Rattle.integers.specs.Integers.{slotOf};
+ghost use Rattle.integers.specs.Integers.{destVar, Fits, Wrote, slotOf};
 ghost use Rattle.floats.specs.Floats.{isOperation, isComparison, floatSize, floatOp, storeFloat, operationList, comparedSides, orderedList, equalList, comparedFloats, resizedList, toFloatList, fromFloatList, castFloats, floatList};
 
 // The type's code of the variable at cell `k`.
@@ -191,7 +190,7 @@ fn put_equal(
     let behind = at + 256;
     let d = store(offsets, s, k + 2);
     put_sides(offsets, s, k, k + 6, k + 10, cc, out, at);
-    let both = pair(0, op.code(), Size::U8);
+    let both = pair(0, op.code(), 1);
     put_three(out, behind, flag(parity, 1), both, d);
 }
 
@@ -199,7 +198,7 @@ fn put_equal(
 fn put_compared(offsets: &[u64], s: &[u8], k: usize, out: &mut [u8], at: usize)
     requires { ⌜ k + 13 ≤ cells (now s) ⌝ }
     requires { ⌜ isComparison (cellAt (now s) (k + 1)) ≡ true ⌝ }
-    requires { ⌜ at + 448 ≤ length (now out) ⌝ }
+    requires { ⌜ Fits (comparedFloats (now offsets) (destVar (now s) k) (cellAt (now s) (k + 1)) (varAt (now s) (k + 6)) (varAt (now s) (k + 10))) at (now out) ⌝ }
     ensures { λ _. ⌜ now (out .exit) ≡ write (now (out .entry)) at (listBytes (comparedFloats (now (offsets .entry)) (varAt (now (s .entry)) (k + 2)) (cellAt (now (s .entry)) (k + 1)) (varAt (now (s .entry)) (k + 6)) (varAt (now (s .entry)) (k + 10)))) ⌝ }
 {
     match cell_at(s, k + 1) {
@@ -251,7 +250,7 @@ fn byte(offsets: &[u64], s: &[u8], k: usize) -> Record
 // An integer as a float: `cvtsi2sd xmm0, src ; movsd [dest], xmm0`, one byte by way of RAX.
 fn put_to_float(offsets: &[u64], s: &[u8], k: usize, out: &mut [u8], at: usize)
     requires { ⌜ k + 13 ≤ cells (now s) ⌝ }
-    requires { ⌜ at + 192 ≤ length (now out) ⌝ }
+    requires { ⌜ Fits (toFloatList (now offsets) (destVar (now s) k) (varAt (now s) (k + 6))) at (now out) ⌝ }
     ensures { λ _. ⌜ now (out .exit) ≡ write (now (out .entry)) at (listBytes (toFloatList (now (offsets .entry)) (varAt (now (s .entry)) (k + 2)) (varAt (now (s .entry)) (k + 6)))) ⌝ }
 {
     let op = by_size(s, k + 2, 2, 3);
@@ -260,13 +259,8 @@ fn put_to_float(offsets: &[u64], s: &[u8], k: usize, out: &mut [u8], at: usize)
         let a = byte(offsets, s, k + 6);
         put_three(out, at, a, cells_record(5, op, 16, 1, 0, 8, 0), d);
     } else {
-        let size = size_at(s, k + 6);
-        put_two(
-            out,
-            at,
-            on_slot(offsets, s, k + 6, 5, op, 16, size.code()),
-            d,
-        );
+        let bytes = bytes_at(s, k + 6);
+        put_two(out, at, on_slot(offsets, s, k + 6, 5, op, 16, bytes), d);
     }
 }
 
@@ -276,16 +270,9 @@ fn put_from_float(offsets: &[u64], s: &[u8], k: usize, out: &mut [u8], at: usize
     requires { ⌜ at + 128 ≤ length (now out) ⌝ }
     ensures { λ _. ⌜ now (out .exit) ≡ write (now (out .entry)) at (listBytes (fromFloatList (now (offsets .entry)) (varAt (now (s .entry)) (k + 2)) (varAt (now (s .entry)) (k + 6)))) ⌝ }
 {
-    let size = size_at(s, k + 2);
-    let a = on_slot(
-        offsets,
-        s,
-        k + 6,
-        5,
-        by_size(s, k + 6, 6, 7),
-        0,
-        size.code(),
-    );
+    let bytes = bytes_at(s, k + 2);
+    let op = by_size(s, k + 6, 6, 7);
+    let a = on_slot(offsets, s, k + 6, 5, op, 0, bytes);
     put_two(out, at, a, store(offsets, s, k + 2));
 }
 
@@ -293,7 +280,7 @@ fn put_from_float(offsets: &[u64], s: &[u8], k: usize, out: &mut [u8], at: usize
 fn put_cast(offsets: &[u64], s: &[u8], k: usize, out: &mut [u8], at: usize)
     requires { ⌜ k + 13 ≤ cells (now s) ⌝ }
     requires { ⌜ cellAt (now s) (k + 5) ≡ 0 ⌝ }
-    requires { ⌜ at + 192 ≤ length (now out) ⌝ }
+    requires { ⌜ Fits (castFloats (now offsets) (destVar (now s) k) (varAt (now s) (k + 6))) at (now out) ⌝ }
     ensures { λ _. ⌜ now (out .exit) ≡ write (now (out .entry)) at (listBytes (castFloats (now (offsets .entry)) (varAt (now (s .entry)) (k + 2)) (varAt (now (s .entry)) (k + 6)))) ⌝ }
 {
     let to = code_at(s, k + 2);
@@ -313,13 +300,11 @@ fn put_cast(offsets: &[u64], s: &[u8], k: usize, out: &mut [u8], at: usize)
     }
 }
 
-// The instruction at cell `k`, where it is one on floats of those that are counted; room for seven records is there. The number of its records, 0 where
-// it is left to its list maker.
+// The instruction at cell `k`, where it is one on floats of those that are counted. The number of its records, 0 where it is left to its list maker.
 pub fn put_float(offsets: &[u64], s: &[u8], k: usize, out: &mut [u8], at: usize) -> u64
     requires { ⌜ k + 13 ≤ cells (now s) ⌝ }
-    requires { ⌜ at + 448 ≤ length (now out) ⌝ }
-    ensures { λ r. ⌜ r ≡ length (floatList (now (offsets .entry)) (instrAt (now (s .entry)) k)) ⌝ }
-    ensures { λ r. ⌜ now (out .exit) ≡ write (now (out .entry)) at (listBytes (floatList (now (offsets .entry)) (instrAt (now (s .entry)) k))) ⌝ }
+    requires { ⌜ Fits (floatList (now offsets) (instrAt (now s) k)) at (now out) ⌝ }
+    ensures { λ r. ⌜ Wrote (floatList (now (offsets .entry)) (instrAt (now (s .entry)) k)) at r (now (out .entry)) (now (out .exit)) ⌝ }
 {
     let n = count_float(offsets, s, k);
     if n == 0 {

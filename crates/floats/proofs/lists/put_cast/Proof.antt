@@ -1,3 +1,5 @@
+use Rattle.floats.specs.Floats.{resizedList, fromFloatList}
+use native.Mathlib.Omega.{arith}
 use Prim.Native.Nat.{_+_}
 use mathlib.Core.Path.{sym, ap, _∙_}
 use borrow.Author.Tests.{eq-eqb, ne-eqb}
@@ -30,16 +32,35 @@ is-float-code-requires-2 : tie.Need-is-float-code-requires-2
 is-float-code-requires-2 c κs = search needs
 
 put-copy-requires : tie.Need-put-copy-requires
-put-copy-requires c κs = search needs
+put-copy-requires c κs =
+    let a = c .before .before .before .before .before .before .before .before .before .before .before .args in
+    let x = ap isFloatCode (sym (c .before .before .before .before .before .before .before .code-at .ensures)) ∙ sym (c .before .before .before .before .before .is-float-code .ensures) ∙ c .before .before .before .before .if1 .taken in
+    let y = ap isFloatCode (sym (c .before .before .before .before .before .before .code-at2 .ensures)) ∙ sym (c .before .before .before .is-float-code2 .ensures) ∙ c .before .before .if2 .taken in
+    let z = eq-eqb _ _ (sym (c .before .before .before .before .before .before .before .code-at .ensures) ∙ c .before .if3 .taken ∙ c .before .before .before .before .before .before .code-at2 .ensures) in
+    (c .before .before .before .before .before .before .before .before .before .before .before .pre .0, rw (left-var (a .s .now) (a .k) (c .before .before .before .before .before .before .before .before .before .before .before .pre .1 .0)) (rw (copied (a .offsets .now) (varAt (a .s .now) (a .k + 2)) (varAt (a .s .now) (a .k + 6)) x y z) at (c .before .before .before .before .before .before .before .before .before .before .before .pre .1 .1)))
 
 put-resized-requires : tie.Need-put-resized-requires
-put-resized-requires c κs = search needs
+unfolding resizedList
+put-resized-requires c κs =
+    let a = c .before .before .before .before .before .before .before .before .before .before .before .args in
+    let x = ap isFloatCode (sym (c .before .before .before .before .before .before .before .code-at .ensures)) ∙ sym (c .before .before .before .before .before .is-float-code .ensures) ∙ c .before .before .before .before .if1 .taken in
+    let y = ap isFloatCode (sym (c .before .before .before .before .before .before .code-at2 .ensures)) ∙ sym (c .before .before .before .is-float-code2 .ensures) ∙ c .before .before .if2 .taken in
+    let z = ne-eqb _ _ (λ e. c .before .if3 .left (c .before .before .before .before .before .before .before .code-at .ensures ∙ e ∙ sym (c .before .before .before .before .before .before .code-at2 .ensures))) in
+    (c .before .before .before .before .before .before .before .before .before .before .before .pre .0, omega (arith, rw (resized (a .offsets .now) (varAt (a .s .now) (a .k + 2)) (varAt (a .s .now) (a .k + 6)) x y z) at (c .before .before .before .before .before .before .before .before .before .before .before .pre .1 .1)))
 
 put-to-float-requires : tie.Need-put-to-float-requires
-put-to-float-requires c κs = search needs
+put-to-float-requires c κs =
+    let a = c .before .before .before .before .before .before .before .before .before .before .args in
+    let x = ap isFloatCode (sym (c .before .before .before .before .before .before .code-at .ensures)) ∙ sym (c .before .before .before .before .is-float-code .ensures) ∙ c .before .before .before .if1 .taken in
+    let y = ap isFloatCode (sym (c .before .before .before .before .before .code-at2 .ensures)) ∙ sym (c .before .before .is-float-code2 .ensures) ∙ c .before .if2 .left in
+    (c .before .before .before .before .before .before .before .before .before .before .pre .0, rw (to-float (a .offsets .now) (varAt (a .s .now) (a .k + 2)) (varAt (a .s .now) (a .k + 6)) x y) at (c .before .before .before .before .before .before .before .before .before .before .pre .1 .1))
 
 put-from-float-requires : tie.Need-put-from-float-requires
-put-from-float-requires c κs = search needs
+unfolding fromFloatList
+put-from-float-requires c κs =
+    let a = c .before .before .before .before .before .before .before .before .args in
+    let x = ap isFloatCode (sym (c .before .before .before .before .code-at .ensures)) ∙ sym (c .before .before .is-float-code .ensures) ∙ c .before .if1 .left in
+    (c .before .before .before .before .before .before .before .before .pre .0, omega (arith, rw (from-float (a .offsets .now) (varAt (a .s .now) (a .k + 2)) (varAt (a .s .now) (a .k + 6)) x) at (c .before .before .before .before .before .before .before .before .pre .1 .1)))
 
 same-length : tie.Need-same-length
 same-length c = search needs
@@ -50,7 +71,7 @@ returns c =
     let x = ap isFloatCode (sym (c .before .before .before .before .before .before .before .before .before .before .code-at .ensures)) ∙ sym (c .before .before .before .before .before .before .before .before .is-float-code .ensures) ∙ c .before .before .before .before .before .before .before .if1 .taken in
     let y = ap isFloatCode (sym (c .before .before .before .before .before .before .before .before .before .code-at2 .ensures)) ∙ sym (c .before .before .before .before .before .before .is-float-code2 .ensures) ∙ c .before .before .before .before .before .if2 .taken in
     let z = eq-eqb _ _ (sym (c .before .before .before .before .before .before .before .before .before .before .code-at .ensures) ∙ c .before .before .before .before .if3 .taken ∙ c .before .before .before .before .before .before .before .before .before .code-at2 .ensures) in
-    c .before .before .put-copy .ensures .1 ∙ ap (λ is. write (a .out .now) (a .at) (listBytes is)) (ap (copyList (a .offsets .now) (varAt (a .s .now) (a .k + 2))) (left-var (a .s .now) (a .k) (c .before .before .before .before .before .before .before .before .before .before .before .before .before .before .pre .1 .0)) ∙ sym (copied (a .offsets .now) (varAt (a .s .now) (a .k + 2)) (varAt (a .s .now) (a .k + 6)) x y z))
+    c .before .before .put-copy .ensures .bytes ∙ ap (λ is. write (a .out .now) (a .at) (listBytes is)) (ap (copyList (a .offsets .now) (varAt (a .s .now) (a .k + 2))) (left-var (a .s .now) (a .k) (c .before .before .before .before .before .before .before .before .before .before .before .before .before .before .pre .1 .0)) ∙ sym (copied (a .offsets .now) (varAt (a .s .now) (a .k + 2)) (varAt (a .s .now) (a .k + 6)) x y z))
 
 same-length-2 : tie.Need-same-length-2
 same-length-2 c = search needs

@@ -1,3 +1,5 @@
+use Rattle.floats.specs.Floats.{equalList, orderedList}
+use native.Mathlib.Omega.{arith}
 use Prim.Native.Nat.{_+_}
 use mathlib.Core.Path.{sym, ap, _∙_}
 use Rattle.cells.specs.Cells.{cellAt, write}
@@ -16,10 +18,16 @@ cell-at-requires : tie.Need-cell-at-requires
 cell-at-requires c κs = search needs
 
 put-equal-requires : tie.Need-put-equal-requires
-put-equal-requires c κs = search needs
+unfolding equalList
+put-equal-requires c κs =
+    let a = c .before .before .before .before .before .before .args in
+    (c .before .before .before .before .before .before .pre .0, omega (arith, rw (is-eq (a .offsets .now) (varAt (a .s .now) (a .k + 2)) (cellAt (a .s .now) (a .k + 1)) (varAt (a .s .now) (a .k + 6)) (varAt (a .s .now) (a .k + 10)) (sym (c .before .before .cell-at .ensures) ∙ c .before .match .keys1)) at (c .before .before .before .before .before .before .pre .1 .1)))
 
 put-equal-requires-2 : tie.Need-put-equal-requires-2
-put-equal-requires-2 c κs = search needs
+unfolding equalList
+put-equal-requires-2 c κs =
+    let a = c .before .before .before .before .before .before .args in
+    (c .before .before .before .before .before .before .pre .0, omega (arith, rw (is-ne (a .offsets .now) (varAt (a .s .now) (a .k + 2)) (cellAt (a .s .now) (a .k + 1)) (varAt (a .s .now) (a .k + 6)) (varAt (a .s .now) (a .k + 10)) (sym (c .before .before .cell-at .ensures) ∙ c .before .match .keys2)) at (c .before .before .before .before .before .before .pre .1 .1)))
 
 add-put-ordered : tie.Need-add-put-ordered
 add-put-ordered c = search needs
@@ -28,7 +36,10 @@ add-put-ordered-2 : tie.Need-add-put-ordered-2
 add-put-ordered-2 c = search needs
 
 put-ordered-requires : tie.Need-put-ordered-requires
-put-ordered-requires c κs = search needs
+unfolding orderedList
+put-ordered-requires c κs =
+    let a = c .before .before .before .before .before .before .args in
+    (c .before .before .before .before .before .before .pre .0, (omega (arith, c .before .before .before .before .before .before .pre .0), (omega (arith, c .before .before .before .before .before .before .pre .0), omega (arith, rw (is-lt (a .offsets .now) (varAt (a .s .now) (a .k + 2)) (cellAt (a .s .now) (a .k + 1)) (varAt (a .s .now) (a .k + 6)) (varAt (a .s .now) (a .k + 10)) (sym (c .before .before .cell-at .ensures) ∙ c .before .match .keys3)) at (c .before .before .before .before .before .before .pre .1 .1)))))
 
 add-put-ordered-3 : tie.Need-add-put-ordered-3
 add-put-ordered-3 c = search needs
@@ -37,7 +48,10 @@ add-put-ordered-4 : tie.Need-add-put-ordered-4
 add-put-ordered-4 c = search needs
 
 put-ordered-requires-2 : tie.Need-put-ordered-requires-2
-put-ordered-requires-2 c κs = search needs
+unfolding orderedList
+put-ordered-requires-2 c κs =
+    let a = c .before .before .before .before .before .before .args in
+    (c .before .before .before .before .before .before .pre .0, (omega (arith, c .before .before .before .before .before .before .pre .0), (omega (arith, c .before .before .before .before .before .before .pre .0), omega (arith, rw (is-le (a .offsets .now) (varAt (a .s .now) (a .k + 2)) (cellAt (a .s .now) (a .k + 1)) (varAt (a .s .now) (a .k + 6)) (varAt (a .s .now) (a .k + 10)) (sym (c .before .before .cell-at .ensures) ∙ c .before .match .keys4)) at (c .before .before .before .before .before .before .pre .1 .1)))))
 
 add-put-ordered-5 : tie.Need-add-put-ordered-5
 add-put-ordered-5 c = search needs
@@ -46,7 +60,10 @@ add-put-ordered-6 : tie.Need-add-put-ordered-6
 add-put-ordered-6 c = search needs
 
 put-ordered-requires-3 : tie.Need-put-ordered-requires-3
-put-ordered-requires-3 c κs = search needs
+unfolding orderedList
+put-ordered-requires-3 c κs =
+    let a = c .before .before .before .before .before .before .args in
+    (c .before .before .before .before .before .before .pre .0, (omega (arith, c .before .before .before .before .before .before .pre .0), (omega (arith, c .before .before .before .before .before .before .pre .0), omega (arith, rw (is-gt (a .offsets .now) (varAt (a .s .now) (a .k + 2)) (cellAt (a .s .now) (a .k + 1)) (varAt (a .s .now) (a .k + 6)) (varAt (a .s .now) (a .k + 10)) (sym (c .before .before .cell-at .ensures) ∙ c .before .match .keys5)) at (c .before .before .before .before .before .before .pre .1 .1)))))
 
 add-put-ordered-7 : tie.Need-add-put-ordered-7
 add-put-ordered-7 c = search needs
@@ -55,7 +72,13 @@ add-put-ordered-8 : tie.Need-add-put-ordered-8
 add-put-ordered-8 c = search needs
 
 put-ordered-requires-4 : tie.Need-put-ordered-requires-4
-put-ordered-requires-4 c κs = search needs
+unfolding orderedList
+put-ordered-requires-4 c κs =
+    let a = c .before .before .before .before .before .before .args in
+    let e = c .before .before .cell-at .ensures in
+    let m = c .before .match .rest in
+    let ten = last (comparison-is _ (c .before .before .before .before .before .before .pre .1 .0)) (rw (← e) (m .0 .0 .0 .0 .1)) (rw (← e) (m .0 .0 .0 .1)) (rw (← e) (m .0 .0 .1)) (rw (← e) (m .0 .1)) (rw (← e) (m .1)) in
+    (c .before .before .before .before .before .before .pre .0, (omega (arith, c .before .before .before .before .before .before .pre .0), (omega (arith, c .before .before .before .before .before .before .pre .0), omega (arith, rw (is-ge (a .offsets .now) (varAt (a .s .now) (a .k + 2)) (cellAt (a .s .now) (a .k + 1)) (varAt (a .s .now) (a .k + 6)) (varAt (a .s .now) (a .k + 10)) ten) at (c .before .before .before .before .before .before .pre .1 .1)))))
 
 same-length : tie.Need-same-length
 same-length c = search needs
