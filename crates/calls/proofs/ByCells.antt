@@ -27,7 +27,7 @@ use Rattle.utils.proofs.Emitted.{Emitted, all, first}
 use Rattle.records.specs.Records.{bytesOfRecords}
 use Rattle.layout.proofs.Passed.{apart}
 use Rattle.integers.specs.Integers.{slotOf, loadCells}
-use Rattle.integers.proofs.Forms.{load-record}
+use Rattle.integers.proofs.Forms.{load-record, short-bytes}
 use Rattle.calls.specs.Calls.{storeVar, isQuick, quickLoad, loadedCells, isPlain, plainStore}
 
 -- ---- what the `_` of a match on an operand's kind leaves
@@ -64,28 +64,6 @@ rest-quick ctx s k = go (cellAt s k)
 
 -- ---- loads
 
--- the bytes of a type, and of a constant
-pub one-element : (code : ℕ) → elementWidth code ≡ sizeCode (elementSize (elementWidth code))
-unfolding elementWidth
-one-element zero = refl
-one-element (suc zero) = refl
-one-element (suc (suc zero)) = refl
-one-element (suc (suc (suc zero))) = refl
-one-element (suc (suc (suc (suc zero)))) = refl
-one-element (suc (suc (suc (suc (suc zero))))) = refl
-one-element (suc (suc (suc (suc (suc (suc zero)))))) = refl
-one-element (suc (suc (suc (suc (suc (suc (suc zero))))))) = refl
-one-element (suc (suc (suc (suc (suc (suc (suc (suc zero)))))))) = refl
-one-element (suc (suc (suc (suc (suc (suc (suc (suc (suc zero))))))))) = refl
-one-element (suc (suc (suc (suc (suc (suc (suc (suc (suc (suc zero)))))))))) = refl
-one-element (suc (suc (suc (suc (suc (suc (suc (suc (suc (suc (suc zero))))))))))) = refl
-one-element (suc (suc (suc (suc (suc (suc (suc (suc (suc (suc (suc (suc zero)))))))))))) = refl
-one-element (suc (suc (suc (suc (suc (suc (suc (suc (suc (suc (suc (suc (suc n))))))))))))) = refl
-
-constant-bytes : (short : Bool) → cond short 4 8 ≡ sizeCode (cond short Size.U32 Size.U64)
-constant-bytes true = refl
-constant-bytes false = refl
-
 -- a load's record, by its register and its operand's tag and value
 from-record : (reg : Register) (x : Operand) (size : Size) → loadedCells reg (tagOf x) (valueOf x) (sizeCode size) ≡ recordOf (loadFrom reg x size)
 unfolding loadedCells loadFrom recordOf loadCells
@@ -108,7 +86,7 @@ module _ (offsets s : List ℕ) (k : ℕ) (reg : Register) where
   pub int-loaded : cellAt s k ≡ 1 → loadedCells reg 2 (cellAt s (k + 1)) (cond (eqb (cellAt s (k + 2)) 1) 4 8) ≡ recordOf (quickLoad offsets reg (operandAt s k))
   unfolding operandAt quickLoad
   int-loaded e =
-      rw (e, constant-bytes (eqb (cellAt s (k + 2)) 1))
+      rw (e, short-bytes (eqb (cellAt s (k + 2)) 1))
       (from-record reg (Operand.Imm (cellAt s (k + 1))) (cond (eqb (cellAt s (k + 2)) 1) Size.U32 Size.U64))
 
   pub float-loaded : cellAt s k ≡ 2 → loadedCells reg 7 (cellAt s (k + 1)) 8 ≡ recordOf (quickLoad offsets reg (operandAt s k))

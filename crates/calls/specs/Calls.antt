@@ -2,7 +2,7 @@
 use Prim.Native.Nat.{ℕ}
 use mathlib.Core.Bool.{Bool, true, false, cond, _&&_}
 use mathlib.Core.List.{List, [], _∷_}
-use lib.Dec.{eqb, ltb}
+use lib.Dec.{ltb}
 use lib.ListN.{length}
 use Rattle.ir.specs.declared.VarId.{VarId}
 use Rattle.ir.specs.declared.Dest.{Dest}
@@ -19,7 +19,7 @@ use Rattle.x86.specs.Records.{Record, cellsRecord}
 use Rattle.codegen.specs.Context.{Context}
 use Rattle.codegen.specs.Utils.{varSize, convertVar, loadFrom}
 use Rattle.codegen.specs.Instructions.{move, storeResult}
-use Rattle.integers.specs.Integers.{slotOf}
+use Rattle.integers.specs.Integers.{slotOf, loadCells}
 
 -- the number of floats, in RAX
 abbrev pub countFloats : ℕ → List Instruction
@@ -68,10 +68,7 @@ quickLoad offsets reg IrOp.Null = loadFrom reg (Operand.Imm 0) Size.NoSize
 
 -- the record of a load of so many bytes of an operand of a tag and a value
 unfoldable pub loadedCells : Register → ℕ → ℕ → ℕ → Record
-loadedCells reg tag value n =
-    cond (isXmm reg) (cellsRecord 0 11 1 (number reg) tag value n 0)
-    (cond (eqb n 1) (cond (eqb tag 2) (cellsRecord 0 0 1 (number reg) tag value 4 0) (cellsRecord 7 2 1 (number reg) tag value 8 1))
-    (cellsRecord 0 0 1 (number reg) tag value n 0))
+loadedCells reg tag value n = cond (isXmm reg) (cellsRecord 0 11 1 (number reg) tag value n 0) (loadCells (number reg) tag value n)
 
 -- a variable that is no array, with a slot among n, of a type with a width
 unfoldable pub isPlain : ℕ → VarId → Bool

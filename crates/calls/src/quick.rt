@@ -2,11 +2,11 @@
 use cells::cell_at;
 use frame::param_register;
 use integers::cellwise::cells_record;
+use integers::cellwise::load_cells;
 use integers::cellwise::slot;
 use integers::cellwise::truth;
+use integers::cellwise::type_bytes;
 use integers::short_width;
-use integers::width;
-use ir::Type;
 use ir::VarId;
 use ir::read::var_at;
 use records::put_two;
@@ -20,10 +20,9 @@ ghost use Prim.Native.Nat.{_+_, _≤_};
 ghost use lib.Dec.{ltb};
 ghost use lib.ListN.{length, getD};
 ghost use Rattle.cells.specs.Cells.{cells};
-ghost use Rattle.ir.specs.Types.{elfSize};
 ghost use Rattle.ir.specs.Function.{tablesOf, operandAt};
 ghost use Rattle.x86.specs.Registers.{RAX};
-ghost use Rattle.x86.specs.Records.{recordOf, cellsRecord, sizeCode};
+ghost use Rattle.x86.specs.Records.{recordOf, cellsRecord};
 ghost use Rattle.x86.specs.Says.{recordSays};
 ghost use Rattle.codegen.specs.Instructions.{floating};
 ghost use Rattle.codegen.specs.Frame.{registersOf};
@@ -80,17 +79,7 @@ pub fn is_quick(tables: &[u8], offsets: &[u64], s: &[u8], k: usize) -> bool
     }
 }
 
-// The bytes of a move that touches a variable of a type: an array has an address's.
-fn type_bytes(ty: Type) -> u64
-    ensures { λ r. ⌜ r ≡ sizeCode (elfSize ty) ⌝ }
-{
-    if ty.count == 0xffff_ffff_ffff_ffff {
-        return width(ty.code);
-    }
-    8
-}
-
-// A register's load of so many bytes of an operand of a tag and a value: LoadF for an XMM register; one byte by Movzx, or by a four-byte Mov of a constant.
+// A register's load of so many bytes of an operand of a tag and a value: LoadF for an XMM register.
 fn loaded_cells(reg: Register, tag: u64, value: u64, bytes: u64) -> Record
     ensures { λ r. ⌜ recordSays r ≡ loadedCells reg tag value bytes ⌝ }
 {
@@ -98,13 +87,7 @@ fn loaded_cells(reg: Register, tag: u64, value: u64, bytes: u64) -> Record
     if reg.is_xmm() {
         return cells_record(0, 11, number, tag, value, bytes, 0);
     }
-    if bytes == 1 {
-        if tag == 2 {
-            return cells_record(0, 0, number, tag, value, 4, 0);
-        }
-        return cells_record(7, 2, number, tag, value, 8, 1);
-    }
-    cells_record(0, 0, number, tag, value, bytes, 0)
+    load_cells(number, tag, value, bytes)
 }
 
 // The argument at cell `k` into a register, where no look-up refuses it.
