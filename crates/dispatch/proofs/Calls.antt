@@ -20,9 +20,8 @@ use Rattle.x86.specs.declared.enums.Instruction.{Instruction}
 use Rattle.codegen.specs.Context.{Context}
 use Rattle.codegen.specs.Generation.{generateInstr}
 use Rattle.utils.specs.Answers.{counted, placed}
-use Rattle.utils.specs.Parts.{Put, PutAll}
+use Rattle.utils.specs.Parts.{PutAll}
 use Rattle.utils.proofs.Parts.{put-emitted}
-use Rattle.integers.proofs.Left.{none-written}
 use Rattle.records.specs.Records.{encoded, countedRecords, placedRecords}
 use Rattle.records.proofs.Written.{counted-encoded, placed-encoded}
 use Rattle.dispatch.specs.Dispatch.{withoutCall}
@@ -77,10 +76,6 @@ no-call ctx labels ret Instr.Comment args h = refl
 put-placed : (at : ℕ) (r : Result (List Instruction)) (s : List ℕ) → PutAll at r s (placed at r s)
 put-placed at (ok is) s = put-emitted at is s
 put-placed at (refused n) s = refl
-
--- what no record leaves
-pub put-nothing : (at : ℕ) (s : List ℕ) → PutAll at (ok []) s s
-put-nothing at s = record { long = refl; bytes = λ h. none-written s at }
 
 -- what a maker's records leave
 pub put-all : (at : ℕ) (r q : Result (List Instruction)) (s : List ℕ) {c : Result ℕ} {u : List ℕ} → q ≡ r → c ≡ countedRecords (encoded q) → u ≡ placedRecords at (encoded q) s

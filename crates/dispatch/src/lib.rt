@@ -3,6 +3,7 @@ use arithmetic::generate_binary;
 use arithmetic::generate_unary;
 use calls::generate_call;
 use casts::generate_cast;
+use cells::Cursor;
 use cells::cell_at;
 use floats::count_float;
 use floats::lists::put_float;
@@ -12,16 +13,18 @@ use instructions::generate_jump;
 use instructions::generate_label;
 use instructions::generate_return;
 use instructions::generate_zero;
-use integers::count_instr;
+use integers::laid::laid_count;
 use integers::lists::put_quick;
 use ir::Instr;
 use ir::Type;
 use ir::read::instr_at;
+use layout::Checked;
+use layout::instrs::instr_check;
+use layout::laid::is_laid;
 use records::List;
 use records::Records;
 use records::put_records;
 use utils::Made;
-use utils::room;
 use x86::enums::Instruction;
 use x86::record::record_of;
 ghost use mathlib.Core.Path.{_≡_};
@@ -30,12 +33,12 @@ ghost use Prim.Native.Nat.{_+_, _≤_};
 ghost use lib.ListN.{length};
 ghost use Rattle.cells.specs.Cells.{cells};
 ghost use Rattle.ir.specs.Types.{ok};
-ghost use Rattle.ir.specs.Function.{instrAt, operandsAt, argumentsAt, behind};
-ghost use Rattle.codegen.specs.Generation.{generateInstr};
+ghost use Rattle.ir.specs.Function.{argumentsAt, behind};
+ghost use Rattle.layout.specs.Layout.{cursor, instrCheck};
 ghost use Rattle.utils.specs.Answers.{lent, madeSays, counted};
 ghost use Rattle.utils.specs.Parts.{PutAll};
 ghost use Rattle.records.specs.Records.{recordsSay, encoded};
-ghost use Rattle.dispatch.specs.Dispatch.{withoutCall};
+ghost use Rattle.dispatch.specs.Dispatch.{withoutCall, lineMade, Takes, WroteAll, lineOf};
 
 // No record.
 fn nothing() -> Records
@@ -102,8 +105,8 @@ fn put_made(
     requires { ⌜ behind (now sheet) k ≤ cells (now sheet) ⌝ }
     requires { ⌜ argumentsAt (now sheet) k ≤ 64 ⌝ }
     requires { ⌜ at ≤ 4294967296 ⌝ }
-    ensures { λ r. ⌜ madeSays r ≡ counted (generateInstr (lent (now (tables .entry)) (now (offsets .entry))) labels ret (instrAt (now (sheet .entry)) k) (operandsAt (now (sheet .entry)) (argumentsAt (now (sheet .entry)) k) (k + 13))) ⌝ }
-    ensures { λ r. ⌜ PutAll at (generateInstr (lent (now (tables .entry)) (now (offsets .entry))) labels ret (instrAt (now (sheet .entry)) k) (operandsAt (now (sheet .entry)) (argumentsAt (now (sheet .entry)) k) (k + 13))) (now (out .entry)) (now (out .exit)) ⌝ }
+    ensures { λ r. ⌜ madeSays r ≡ counted (lineMade (now (tables .entry)) (now (offsets .entry)) (now (sheet .entry)) k labels ret) ⌝ }
+    ensures { λ r. ⌜ PutAll at (lineMade (now (tables .entry)) (now (offsets .entry)) (now (sheet .entry)) k labels ret) (now (out .entry)) (now (out .exit)) ⌝ }
 {
     if cell_at(sheet, k) == 10 {
         return Made::Records(0);
@@ -119,8 +122,9 @@ fn put_made(
     put_records(out, at, generate_instr(tables, offsets, labels, ret, i))
 }
 
-// From its cells where it is an instruction on integers or on float variables, else by its list maker; with room for seven records.
-fn put_quickly(
+// The records of the instruction at cell `k`, which no look-up refuses, in a function of so many labels and a return type, from `at` on, where there is
+// room for them: from its cells where it is an instruction on integers or on float variables, else by its list maker. How many they are.
+pub fn put_line(
     tables: &[u8],
     offsets: &[u64],
     sheet: &[u8],
@@ -129,57 +133,98 @@ fn put_quickly(
     ret: Type,
     out: &mut [u8],
     at: usize,
-) -> Made
+) -> u64
     requires { ⌜ behind (now sheet) k ≤ cells (now sheet) ⌝ }
     requires { ⌜ argumentsAt (now sheet) k ≤ 64 ⌝ }
     requires { ⌜ at ≤ 4294967296 ⌝ }
-    requires { ⌜ at + 448 ≤ length (now out) ⌝ }
-    ensures { λ r. ⌜ madeSays r ≡ counted (generateInstr (lent (now (tables .entry)) (now (offsets .entry))) labels ret (instrAt (now (sheet .entry)) k) (operandsAt (now (sheet .entry)) (argumentsAt (now (sheet .entry)) k) (k + 13))) ⌝ }
-    ensures { λ r. ⌜ PutAll at (generateInstr (lent (now (tables .entry)) (now (offsets .entry))) labels ret (instrAt (now (sheet .entry)) k) (operandsAt (now (sheet .entry)) (argumentsAt (now (sheet .entry)) k) (k + 13))) (now (out .entry)) (now (out .exit)) ⌝ }
+    requires { ⌜ Takes (lineMade (now tables) (now offsets) (now sheet) k labels ret) at (now out) ⌝ }
+    ensures { λ r. ⌜ WroteAll (lineMade (now (tables .entry)) (now (offsets .entry)) (now (sheet .entry)) k labels ret) at r (now (out .entry)) (now (out .exit)) ⌝ }
 {
     let n = put_quick(offsets, sheet, k, labels, ret.is_float(), out, at);
     if n != 0 {
-        return Made::Records(n);
+        return n;
     }
     let m = put_float(offsets, sheet, k, out, at);
     if m != 0 {
-        return Made::Records(m);
+        return m;
     }
-    put_made(tables, offsets, sheet, k, labels, ret, out, at)
+    match put_made(tables, offsets, sheet, k, labels, ret, out, at) {
+        Made::Records(made) => made,
+        Made::Refused(_) => 0,
+    }
 }
 
-// The records of the instruction at cell `k`, in a function of so many labels and a return type, from `at` on. Without room for one record they are only
-// counted.
-pub fn put_instr(
+// What an instruction of a sheet comes to: how many records it makes, or the number of their refusal, and the cursor behind it; or the first wrong cell.
+pub enum Line {
+    Made(u64, Cursor),
+    Refused(u64, Cursor),
+    Wrong(u64, usize),
+}
+
+// The instruction at cell `k`, by its check and its list maker.
+fn made_line(tables: &[u8], offsets: &[u64], sheet: &[u8], k: usize, labels: u64, ret: Type) -> Line
+    ensures { λ r. ⌜ r ≡ lineOf (instrCheck (now (sheet .entry)) (cursor k)) (counted (lineMade (now (tables .entry)) (now (offsets .entry)) (now (sheet .entry)) k labels ret)) ⌝ }
+{
+    let mut none = [0u8; 1];
+    match instr_check(sheet, Cursor { at: k }) {
+        Checked::Behind(next) => match put_made(
+            tables,
+            offsets,
+            sheet,
+            k,
+            labels,
+            ret,
+            &mut none,
+            64,
+        ) {
+            Made::Records(n) => Line::Made(n, next),
+            Made::Refused(n) => Line::Refused(n, next),
+        },
+        Checked::Refused(n, cell) => Line::Wrong(n, cell),
+    }
+}
+
+// .. by the short way over its cells, where it is one on float variables.
+fn float_line(
     tables: &[u8],
     offsets: &[u64],
     sheet: &[u8],
     k: usize,
     labels: u64,
     ret: Type,
-    out: &mut [u8],
-    at: usize,
-) -> Made
-    requires { ⌜ behind (now sheet) k ≤ cells (now sheet) ⌝ }
-    requires { ⌜ argumentsAt (now sheet) k ≤ 64 ⌝ }
-    requires { ⌜ at ≤ 4294967296 ⌝ }
-    ensures { λ r. ⌜ madeSays r ≡ counted (generateInstr (lent (now (tables .entry)) (now (offsets .entry))) labels ret (instrAt (now (sheet .entry)) k) (operandsAt (now (sheet .entry)) (argumentsAt (now (sheet .entry)) k) (k + 13))) ⌝ }
-    ensures { λ r. ⌜ PutAll at (generateInstr (lent (now (tables .entry)) (now (offsets .entry))) labels ret (instrAt (now (sheet .entry)) k) (operandsAt (now (sheet .entry)) (argumentsAt (now (sheet .entry)) k) (k + 13))) (now (out .entry)) (now (out .exit)) ⌝ }
+) -> Line
+    ensures { λ r. ⌜ r ≡ lineOf (instrCheck (now (sheet .entry)) (cursor k)) (counted (lineMade (now (tables .entry)) (now (offsets .entry)) (now (sheet .entry)) k labels ret)) ⌝ }
 {
-    let left = room(out.len(), at);
-    if left == 0 {
-        let n = count_instr(offsets, sheet, k, labels);
+    if is_laid(sheet, k) {
+        let n = count_float(offsets, sheet, k);
         if n != 0 {
-            return Made::Records(n);
+            return Line::Made(n, Cursor { at: k + 13 });
         }
-        let m = count_float(offsets, sheet, k);
-        if m != 0 {
-            return Made::Records(m);
+    }
+    made_line(tables, offsets, sheet, k, labels, ret)
+}
+
+// .. or one on integers.
+pub fn count_line(
+    tables: &[u8],
+    offsets: &[u64],
+    sheet: &[u8],
+    k: usize,
+    labels: u64,
+    ret: Type,
+) -> Line
+    requires { ⌜ length (now offsets) ≤ 256 ⌝ }
+    requires { ⌜ labels ≤ 256 ⌝ }
+    ensures { λ r. ⌜ r ≡ lineOf (instrCheck (now (sheet .entry)) (cursor k)) (counted (lineMade (now (tables .entry)) (now (offsets .entry)) (now (sheet .entry)) k labels ret)) ⌝ }
+{
+    let all = sheet.len() / 8;
+    if 13 <= all {
+        if k <= all - 13 {
+            let n = laid_count(offsets, sheet, k, labels);
+            if n != 0 {
+                return Line::Made(n, Cursor { at: k + 13 });
+            }
         }
-        return put_made(tables, offsets, sheet, k, labels, ret, out, at);
     }
-    if left < 7 {
-        return put_made(tables, offsets, sheet, k, labels, ret, out, at);
-    }
-    put_quickly(tables, offsets, sheet, k, labels, ret, out, at)
+    float_line(tables, offsets, sheet, k, labels, ret)
 }

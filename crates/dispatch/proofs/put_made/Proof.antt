@@ -2,7 +2,8 @@ use mathlib.Core.Path.{refl, sym, ap, _∙_}
 use native.Mathlib.Omega.{arith}
 use Rattle.codegen.specs.Generation.{generateInstr}
 use Rattle.records.specs.Records.{countedRecords, placedRecords}
-use Rattle.dispatch.proofs.Calls.{thirteen, first-cell, inside, comment, call-count, no-call, put-all, put-nothing}
+use Rattle.dispatch.proofs.Calls.{thirteen, first-cell, inside, comment, call-count, no-call, put-all}
+use Rattle.utils.proofs.Parts.{put-none}
 use borrow.Author.Needs.{needs}
 use Rattle.dispatch.proofs.put_made.Statement.{statement}
 use Rattle.dispatch.proofs.put_made.Tie as tie
@@ -14,7 +15,7 @@ returns : tie.Need-returns
 unfolding generateInstr
 returns c =
     let a = c .before .before .before .before .before .before .args in
-    rw (comment (a .sheet .now) (a .k) (sym (c .before .cell-at .ensures) ∙ c .if1 .taken)) (refl, put-nothing (a .at) (a .out .now))
+    rw (comment (a .sheet .now) (a .k) (sym (c .before .cell-at .ensures) ∙ c .if1 .taken)) (refl, put-none (a .at) (a .out .now))
 
 instr-at-requires : tie.Need-instr-at-requires
 instr-at-requires c κs = thirteen (c .before .before .before .before .before .before .args .sheet .now) (c .before .before .before .before .before .before .args .k) (c .before .before .before .before .before .before .pre .0)
