@@ -1,17 +1,19 @@
--- Prologue, body and epilogue, one behind the other.
+-- Prologue, body and epilogue, one behind the other: how many records they are, and the bytes that have them.
 use Prim.Native.Nat.{ℕ, suc, _+_, _*_, _≤_, _<_}
 use mathlib.Core.Path.{_≡_, refl, sym, ap, subst, _∙_}
-use mathlib.Core.Bool.{Bool, true, false, cond, Bool·beq}
+use mathlib.Core.Bool.{Bool, true, false, Bool·beq}
 use mathlib.Core.List.{List, [], _∷_, _++_, append-nil}
 use native.Mathlib.Omega.{arith}
 use lib.ListN.{length, length-append}
 use lib.Dec.{ltb}
-use Rattle.cells.specs.Cells.{cellAt}
+use Rattle.cells.specs.Cells.{cellAt, write}
+use Rattle.cells.proofs.Bytes.{write-length}
 use Rattle.ir.specs.declared.VarId.{VarId}
+use Rattle.ir.specs.Function.{varsAt}
 use Rattle.ir.specs.Types as types
 use Rattle.ir.specs.Types.{Result, ok, isFloat}
-use Rattle.ir.specs.Function.{varsAt}
 use Rattle.x86.specs.declared.enums.Instruction.{Instruction}
+use Rattle.x86.specs.Records.{listBytes}
 use Rattle.codegen.specs.Context.{Context}
 use Rattle.codegen.specs.Utils.{varSize, convertVar}
 use Rattle.codegen.specs.Instructions.{funcEpilogue}
@@ -20,12 +22,18 @@ use Rattle.codegen.specs.Generation.{Outcome, accepted, refused, _>>=_, at, isR
 use Rattle.codegen.proofs.Results.{Yields, yields, any, bind, choose, never}
 use Rattle.codegen.proofs.Shapes.{ends-last, ends-same}
 use Rattle.machine.proofs.Accepted as outcomes
-use Rattle.utils.specs.Answers.{lent, counted, emitted}
+use Rattle.utils.specs.Answers.{lent, counted}
 use Rattle.utils.specs.Parts.{Put, PutAll}
-use Rattle.utils.proofs.Parts.{put-more, put-emitted, none-emitted}
+use Rattle.utils.proofs.Emitted.{listBytes-length}
+use Rattle.utils.proofs.Parts.{put-none, put-more}
 use Rattle.frame.proofs.Prologue.{few-stores}
+use Rattle.integers.specs.Integers.{Fits, Wrote}
+use Rattle.generation.specs.declared.body.Passed.{Passed}
+use Rattle.generation.specs.declared.pass.Ready.{Ready}
 use Rattle.generation.specs.Answers.{countedOutcome}
-use Rattle.generation.specs.Pass.{PutList, Count, bodyOf, listOf, countedBody, ending}
+use Rattle.generation.specs.Pass.{bodyOf, listOf, ending}
+use Rattle.generation.specs.Survey.{Accepts, passedOf, countedList, framed}
+use Rattle.generation.proofs.Running.{wrote-put}
 
 -- ---- the prologue is short, and does not end in Ret
 
@@ -82,13 +90,6 @@ unfolding endsInRet
 joined-end xs [] e = ends-same xs [] refl ∙ e
 joined-end xs (y ∷ ys) e = ends-last xs y ys
 
-pub none-added : (made : ℕ) (old : List ℕ) {ret : Bool} → ret ≡ true → (made ≡ made + length (ending ret)) × (old ≡ emitted (64 * made) (ending ret) old)
-none-added made old e = rw e (omega arith, none-emitted (64 * made) old)
-
-pub some-added : (made : ℕ) (old new : List ℕ) {ret : Bool} → ret ≡ false → new ≡ emitted (64 * made) funcEpilogue old →
-    (made + 3 ≡ made + length (ending ret)) × (new ≡ emitted (64 * made) (ending ret) old)
-some-added made old new e p = rw e (refl, p)
-
 -- ---- the parts
 
 abbrev pub joined : Result (List Instruction) → Outcome (List Instruction) → Outcome (List Instruction)
@@ -99,53 +100,136 @@ pub list-is : (tables offsets : List ℕ) (bytes : ℕ) (s : List ℕ) {n m : �
 unfolding listOf
 list-is tables offsets bytes s e f = rw (e, f) refl
 
-abbrev recordsIn : Outcome Count → ℕ
-recordsIn (accepted c) = c .records
-recordsIn (refused n place) = 0
+-- a whole list: its three parts
+joined-is : (xs ys : List Instruction) → endsInRet xs ≡ false → withEpilogue (xs ++ ys) ≡ (xs ++ ys) ++ ending (endsInRet ys)
+joined-is xs ys o = with-ending (xs ++ ys) (endsInRet ys) (joined-end xs ys o)
 
-abbrev retIn : Outcome Count → Bool
-retIn (accepted c) = c .ret
-retIn (refused n place) = false
+joined-long : (xs ys : List Instruction) → endsInRet xs ≡ false → length (withEpilogue (xs ++ ys)) ≡ length xs + length ys + length (ending (endsInRet ys))
+joined-long xs ys o = rw (joined-is xs ys o, length-append, length-append) refl
 
-module _ (p : Result (List Instruction)) (b whole : Outcome (List Instruction)) (e : joined p b ≡ whole) (old : List ℕ) where
-  abbrev Done : Outcome ℕ → List ℕ → Outcome (List Instruction) → Type 0
-  Done x new w = (x ≡ countedOutcome w) × PutList 0 w old new
+-- how many records there are
+pub list-counted : (p : Result (List Instruction)) (b : Outcome (List Instruction)) → Yields p Short → countedList p (passedOf b) ≡ countedOutcome (joined p b)
+list-counted (ok xs) (accepted ys) h = ap accepted (sym (joined-long xs ys (h .of xs refl .ends)))
+list-counted (ok xs) (refused n i) h = refl
+list-counted (types.refused n) (accepted ys) h = refl
+list-counted (types.refused n) (refused m i) h = refl
 
-  pub first-refused : {n : ℕ} (new : List ℕ) → types.refused n ≡ counted p → PutAll 0 p old new → (refused n 0 ≡ countedOutcome whole) × PutList 0 whole old new
-  first-refused {n} new c u = subst (Done (refused n 0) new) e (go p c u)
-    where
-      go : (p : Result (List Instruction)) → types.refused n ≡ counted p → PutAll 0 p old new → Done (refused n 0) new (joined p b)
-      go (ok xs) c u = absurd (never c)
-      go (types.refused m) c u = let l : n ≡ m = let z = c in cc in (ap (λ (k : ℕ). refused k 0) l, u)
+-- .. where the prologue refuses
+pub first-refused : (p : Result (List Instruction)) (bytes : ℕ) (b : Passed) {n : ℕ} → types.refused n ≡ counted p → Ready.Refused n 0 ≡ framed bytes (countedList p b)
+first-refused p bytes (Passed.Made m r) e = rw (← e) refl
+first-refused p bytes (Passed.Refused m i) e = rw (← e) refl
+
+module _ (first : Result ℕ) (bytes x : ℕ) (e : ok x ≡ first) where
+  -- .. where the body does
+  pub body-refused : (n i : ℕ) → Ready.Refused n i ≡ framed bytes (at 0 first >>= λ k. refused n i)
+  body-refused n i = rw (← e) refl
+
+  pub all-counted : (m : ℕ) {k n : ℕ} → k ≡ n → Ready.Frame bytes (x + m + k) ≡ framed bytes (at 0 first >>= λ j. accepted (j + m + n))
+  all-counted m f = rw (← e, f) refl
+
+-- ---- what is written
+
+same : {a b : List Instruction} → _≡_ {A = Outcome (List Instruction)} (accepted a) (accepted b) → a ≡ b
+same e = cc
+
+-- the parts of an accepted list
+record Parts (p : Result (List Instruction)) (b : Outcome (List Instruction)) (is : List Instruction) : Type 0 where
+  xs : List Instruction
+  ys : List Instruction
+  first : p ≡ ok xs
+  rest : b ≡ accepted ys
+  few : length xs ≤ 19
+  whole : is ≡ (xs ++ ys) ++ ending (endsInRet ys)
+
+parts-of : (p : Result (List Instruction)) (b : Outcome (List Instruction)) → Yields p Short → (is : List Instruction) → joined p b ≡ accepted is → Parts p b is
+parts-of (ok xs) (accepted ys) h is e =
+    record { xs = xs; ys = ys; first = refl; rest = refl; few = h .of xs refl .few; whole = sym (same e) ∙ joined-is xs ys (h .of xs refl .ends) }
+parts-of (ok xs) (refused n i) h is e = absurd (outcomes.never e)
+parts-of (types.refused n) (accepted ys) h is e = absurd (outcomes.never e)
+parts-of (types.refused n) (refused m i) h is e = absurd (outcomes.never e)
+
+no-less : (xs ys es : List Instruction) → length ((xs ++ ys) ++ es) ≡ length xs + length ys + length es
+no-less xs ys es = rw (length-append, length-append) refl
+
+module _ (p : Result (List Instruction)) (b whole : Outcome (List Instruction)) (e : joined p b ≡ whole) (y : Yields p Short) {old : List ℕ} (t : Accepts whole 0 old) where
+  parts : Parts p b (t .list)
+  parts = parts-of p b y (t .list) (e ∙ t .made)
+
+  long : length (t .list) ≡ length (parts .xs) + length (parts .ys) + length (ending (endsInRet (parts .ys)))
+  long = ap length (parts .whole) ∙ no-less (parts .xs) (parts .ys) (ending (endsInRet (parts .ys)))
+
+  pub needed-is : {n : ℕ} → accepted n ≡ countedOutcome whole → n ≡ length (t .list)
+  needed-is {n} f = let z : _≡_ {A = Outcome ℕ} (accepted n) (accepted (length (t .list))) = f ∙ ap countedOutcome (t .made) in cc
+
+  -- the prologue is not refused
+  pub first-never : {n : ℕ} {A : Type 0} → types.refused n ≡ counted p → A
+  first-never e = absurd (never (e ∙ ap counted (parts .first)))
 
   module _ {x : ℕ} (mid : List ℕ) (c : ok x ≡ counted p) (u : PutAll 0 p old mid) where
-    pub body-refused : {n i : ℕ} (new : List ℕ) → refused n i ≡ countedBody b → PutList (64 * x) b mid new →
-        (refused n i ≡ countedOutcome whole) × PutList 0 whole old new
-    body-refused {n} {i} new d v = subst (Done (refused n i) new) e (go p b c u d v)
-      where
-        go : (p : Result (List Instruction)) (b : Outcome (List Instruction)) → ok x ≡ counted p → PutAll 0 p old mid → refused n i ≡ countedBody b → PutList (64 * x) b mid new →
-            Done (refused n i) new (joined p b)
-        go (ok xs) (accepted ys) c u d v = absurd (outcomes.never d)
-        go (ok xs) (refused m j) c u d v = let l : _≡_ {A = Outcome ℕ} (refused n i) (refused m j) = let z = d in cc in (l, v ∙ u .long)
-        go (types.refused m) b c u d v = absurd (never (sym c))
+    first-is : x ≡ length (parts .xs)
+    first-is = let z = c ∙ ap counted (parts .first) in cc
 
-    pub all-made : Yields p Short → {y r : ℕ} {ret : Bool} (late new : List ℕ) → accepted (record { records = y; ret = ret }) ≡ countedBody b → PutList (64 * x) b mid late →
-        r ≡ x + y + length (ending ret) → new ≡ emitted (64 * (x + y)) (ending ret) late → (accepted r ≡ countedOutcome whole) × PutList 0 whole old new
-    all-made h {y} {r} {ret} late new d v f g = subst (Done (accepted r) new) e (go p b h c u d v)
-      where
-        parts : (xs ys : List Instruction) → endsInRet xs ≡ false → x ≡ length xs → y ≡ length ys → ret ≡ endsInRet ys → Put 0 xs old mid → Put (64 * x) ys mid late →
-            Done (accepted r) new (accepted (withEpilogue (xs ++ ys)))
-        parts xs ys o i j t u v =
-            let w : withEpilogue (xs ++ ys) ≡ (xs ++ ys) ++ ending ret = with-ending (xs ++ ys) ret (joined-end xs ys o ∙ sym t) in
-            let n : length (xs ++ ys) ≡ length xs + length ys = length-append xs ys in
-            let m : length ((xs ++ ys) ++ ending ret) ≡ length (xs ++ ys) + length (ending ret) = length-append (xs ++ ys) (ending ret) in
-            let k : Put (64 * (x + y)) (ending ret) late new = subst (Put (64 * (x + y)) (ending ret) late) (sym g) (put-emitted (64 * (x + y)) (ending ret) late) in
-            rw w (ap accepted (omega arith), put-more (put-more u (omega arith) v) (omega arith) k)
+    first-put : Put 0 (parts .xs) old mid
+    first-put = subst (λ (q : Result (List Instruction)). PutAll 0 q old mid) (parts .first) u
 
-        go : (p : Result (List Instruction)) (b : Outcome (List Instruction)) → Yields p Short → ok x ≡ counted p → PutAll 0 p old mid →
-            accepted (record { records = y; ret = ret }) ≡ countedBody b → PutList (64 * x) b mid late → Done (accepted r) new (joined p b)
-        go (ok xs) (accepted ys) h c u d v =
-            let l : x ≡ length xs = let z = c in cc in
-            parts xs ys (h .of xs refl .ends) l (ap recordsIn d) (ap retIn d) u v
-        go (ok xs) (refused m j) h c u d v = absurd (outcomes.never (sym d))
-        go (types.refused m) b h c u d v = absurd (never (sym c))
+    pub first-short : x ≤ 19
+    first-short = omega (arith, first-is, parts .few)
+
+    -- there is room for the body behind it
+    body-fits : Fits (parts .ys) (64 * x) mid
+    body-fits = omega (arith, first-is, long, t .fits, first-put .long)
+
+    pub body-takes : Accepts b (64 * x) mid
+    body-takes = record { list = parts .ys; made = parts .rest; fits = body-fits }
+
+    module _ {m : ℕ} {late : List ℕ} (w : (is : List Instruction) → b ≡ accepted is → Wrote is (64 * x) m mid late) where
+      body-wrote : Wrote (parts .ys) (64 * x) m mid late
+      body-wrote = w (parts .ys) (parts .rest)
+
+      pub made-long : x + m ≤ length (t .list)
+      made-long = omega (arith, first-is, body-wrote .count, long)
+
+      body-put : Put (64 * x) (parts .ys) mid late
+      body-put = wrote-put body-wrote body-fits
+
+      pub as-long : length late ≡ length old
+      as-long = body-put .long ∙ first-put .long
+
+      end-written : {new : List ℕ} (es : List Instruction) → ending (endsInRet (parts .ys)) ≡ es → Put (64 * (x + m)) es late new → (is : List Instruction) → whole ≡ accepted is →
+          new ≡ write old 0 (listBytes is)
+      end-written {new} es q k is f =
+          let l : t .list ≡ is = same (sym (t .made) ∙ f) in
+          let v : is ≡ (parts .xs ++ parts .ys) ++ es = sym l ∙ parts .whole ∙ ap (λ (d : List Instruction). (parts .xs ++ parts .ys) ++ d) q in
+          let n : length (parts .xs ++ parts .ys) ≡ length (parts .xs) + length (parts .ys) = length-append (parts .xs) (parts .ys) in
+          let o = put-more (put-more first-put (omega (arith, first-is)) body-put) (omega (arith, first-is, body-wrote .count)) k in
+          rw v (o .bytes (rw (← v, ← l) (t .fits)))
+
+      -- no epilogue is left to write
+      pub all-written : length (t .list) ≤ x + m → (is : List Instruction) → whole ≡ accepted is → late ≡ write old 0 (listBytes is)
+      all-written h = go (endsInRet (parts .ys)) refl
+        where
+          go : (r : Bool) → endsInRet (parts .ys) ≡ r → (is : List Instruction) → whole ≡ accepted is → late ≡ write old 0 (listBytes is)
+          go true q = end-written [] (ap ending q) (put-none (64 * (x + m)) late)
+          go false q = let k = ap (λ (r : Bool). length (ending r)) q in absurd (omega (arith, first-is, body-wrote .count, long))
+
+      module _ (h : x + m < length (t .list)) where
+        last-due : ending (endsInRet (parts .ys)) ≡ funcEpilogue
+        last-due = go (endsInRet (parts .ys)) refl
+          where
+            go : (r : Bool) → endsInRet (parts .ys) ≡ r → ending r ≡ funcEpilogue
+            go true q = let k = ap (λ (r : Bool). length (ending r)) q in absurd (omega (arith, first-is, body-wrote .count, long))
+            go false q = refl
+
+        -- there is room for the epilogue
+        pub last-takes : 64 * (x + m) + 192 ≤ length late
+        last-takes =
+            let k : length (ending (endsInRet (parts .ys))) ≡ 3 = ap length last-due in
+            omega (arith, first-is, body-wrote .count, long, t .fits, as-long)
+
+        pub last-long : {new : List ℕ} → new ≡ write late (64 * (x + m)) (listBytes funcEpilogue) → length new ≡ length old
+        last-long f = ap length f ∙ write-length late (listBytes funcEpilogue) (64 * (x + m)) (omega (arith, listBytes-length funcEpilogue, last-takes)) ∙ as-long
+
+        pub last-written : {new : List ℕ} → new ≡ write late (64 * (x + m)) (listBytes funcEpilogue) → (is : List Instruction) → whole ≡ accepted is → new ≡ write old 0 (listBytes is)
+        last-written f =
+            end-written funcEpilogue last-due
+            (record { long = last-long f ∙ sym as-long; bytes = λ z. f })

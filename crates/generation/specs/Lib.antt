@@ -1,2 +1,4 @@
 pub mod Answers
+pub mod Head
 pub mod Pass
+pub mod Survey

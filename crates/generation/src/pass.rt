@@ -1,97 +1,158 @@
-// The pass: prologue, body and epilogue, and what it is lent.
-use crate::Answer;
+// The two passes over a sheet: the first surveys it, the second writes its list.
 use crate::body::Passed;
-use crate::body::body;
+use crate::body::Surveyed;
+use crate::body::survey_body;
+use crate::body::write_body;
+use crate::head::head_check;
+use cells::Cursor;
 use cells::cell_at;
+use frame::Typed;
 use frame::func_prologue;
-use frame::var_offsets;
 use integers::cellwise::frame_left;
 use integers::cellwise::pop_rbp;
 use integers::cellwise::ret;
 use ir::types::Number;
 use layout::Checked;
-use layout::sheet::sheet_check;
+use layout::parts::end_check;
 use layout::tables::tables_check;
 use records::put_three;
 use utils::Made;
-use utils::room;
 ghost use mathlib.Core.Path.{_≡_};
-ghost use Prim.Native.Nat.{_+_, _*_, _≤_};
+ghost use mathlib.Core.List.{List};
+ghost use Prim.Native.Nat.{_≤_};
 ghost use lib.ListN.{length};
-ghost use Rattle.codegen.specs.Instructions.{funcEpilogue};
-ghost use Rattle.utils.specs.Answers.{emitted};
-ghost use Rattle.generation.specs.Answers.{answerSays, countedOutcome};
-ghost use Rattle.generation.specs.Pass.{Laid, LendsIf, PutList, ending, listOf, readySays, prepared, frameOf};
+ghost use Rattle.cells.specs.Cells.{cellAt, write};
+ghost use Rattle.ir.specs.Function.{varsAt, paramsFrom};
+ghost use Rattle.layout.specs.declared.Limited.{Limited};
+ghost use Rattle.x86.specs.declared.enums.Instruction.{Instruction};
+ghost use Rattle.x86.specs.Records.{listBytes};
+ghost use Rattle.codegen.specs.Frame.{funcPrologue};
+ghost use Rattle.codegen.specs.Generation.{accepted, compiled};
+ghost use Rattle.utils.specs.Answers.{lent};
+ghost use Rattle.frame.specs.Sizes.{sizesAt};
+ghost use Rattle.generation.specs.Answers.{countedOutcome};
+ghost use Rattle.generation.specs.Head.{headCheck};
+ghost use Rattle.generation.specs.Pass.{Laid, listOf, ending};
+ghost use Rattle.generation.specs.Survey.{Accepts, Opens, OpensIf, LendsIf, madeBy, countedList, sizedThen, readySays};
 
-// The bytes of the frame, or a refusal with its place.
-pub enum Ready {
-    Frame(u64),
+// The total of the variables' sizes and the cursor of the first instruction, or a refusal with its place.
+pub enum Opened {
+    Sheet(Number, Cursor),
     Refused(u64, u64),
 }
 
-// `(sum + 15) & !15` of the offsets of the variables; refusal 4 where a variable has no width.
-fn frame_of(sheet: &[u8], offsets: &mut [u64; 256]) -> Ready
-    requires { ⌜ Laid (now sheet) ⌝ }
-    requires { ⌜ length (now offsets) ≡ 256 ⌝ }
-    ensures { λ r. ⌜ readySays r ≡ frameOf (now (sheet .entry)) ⌝ }
-    ensures { λ r. ⌜ LendsIf r (now (sheet .entry)) (now (offsets .exit)) ⌝ }
+// The bytes of the frame and the number of records, or a refusal with its place.
+pub enum Ready {
+    Frame(u64, u64),
+    Refused(u64, u64),
+}
+
+// How many records the epilogue is: none behind a Ret.
+fn ending(ret: bool) -> u64
+    ensures { λ r. ⌜ r ≡ length (ending ret) ⌝ }
+    ensures { λ r. ⌜ r ≤ 3 ⌝ }
 {
-    match var_offsets(sheet, cell_at(sheet, 0), offsets) {
-        Number::Is(total) => Ready::Frame((total + 15) / 16 * 16),
-        Number::Refused(number) => Ready::Refused(number, 0),
+    if ret { 0 } else { 3 }
+}
+
+// The records of the function, of the total of its variables' sizes and of its body, or the first refusal.
+fn count_list(
+    tables: &[u8],
+    offsets: &[u64],
+    sheet: &[u8],
+    total: Number,
+    from: Cursor,
+    body: Passed,
+) -> Ready
+    requires { ⌜ headCheck (now sheet) ≡ Limited.Word (cellAt (now sheet) 5) from ⌝ }
+    requires { ⌜ total ≡ sizesAt (now sheet) (cellAt (now sheet) 0) 6 ⌝ }
+    requires { ⌜ madeBy body ≤ 69632 ⌝ }
+    ensures { λ r. ⌜ r ≡ sizedThen total (λ bytes. countedList (funcPrologue (lent (now (tables .entry)) (now (offsets .entry))) bytes (varsAt (now (sheet .entry)) (cellAt (now (sheet .entry)) 1) (paramsFrom (now (sheet .entry))))) body) ⌝ }
+{
+    let bytes = match total {
+        Number::Is(total) => (total + 15) / 16 * 16,
+        Number::Refused(number) => return Ready::Refused(number, 0),
+    };
+    let mut none = [0u8; 1];
+    let params = 6 + 2 * cell_at(sheet, 0) as usize;
+    let first = match func_prologue(
+        tables,
+        offsets,
+        sheet,
+        cell_at(sheet, 1),
+        params,
+        bytes,
+        &mut none,
+    ) {
+        Made::Records(first) => first,
+        Made::Refused(number) => return Ready::Refused(number, 0),
+    };
+    match body {
+        Passed::Made(rest, ret) => Ready::Frame(bytes, first + rest + ending(ret)),
+        Passed::Refused(number, place) => Ready::Refused(number, place),
     }
 }
 
-// The layout of tables and sheet, then the offsets.
-pub fn prepare(tables: &[u8], sheet: &[u8], offsets: &mut [u64; 256]) -> Ready
+// The layout of the tables, and of the sheet before its instructions, with the offsets of its variables.
+pub fn open_sheet(tables: &[u8], sheet: &[u8], offsets: &mut [u64; 256]) -> Opened
     requires { ⌜ length (now offsets) ≡ 256 ⌝ }
-    ensures { λ r. ⌜ readySays r ≡ prepared (now (tables .entry)) (now (sheet .entry)) ⌝ }
-    ensures { λ r. ⌜ LendsIf r (now (sheet .entry)) (now (offsets .exit)) ⌝ }
+    ensures { λ r. ⌜ OpensIf r (now (tables .entry)) (now (sheet .entry)) (now (offsets .exit)) ⌝ }
+    ensures { λ r. ⌜ length (now (offsets .exit)) ≡ 256 ⌝ }
 {
     if let Checked::Refused(number, cell) = tables_check(tables) {
-        return Ready::Refused(number, cell as u64);
+        return Opened::Refused(number, cell as u64);
     }
-    if let Checked::Refused(number, cell) = sheet_check(sheet) {
-        return Ready::Refused(number, cell as u64);
+    match head_check(sheet, offsets) {
+        Typed::Sized(total, from) => Opened::Sheet(total, from),
+        Typed::Wrong(number, cell) => Opened::Refused(number, cell as u64),
     }
-    frame_of(sheet, offsets)
 }
 
-// `mov rsp, rbp ; pop rbp ; ret`, from `at` on, if there is room.
-fn put_epilogue(out: &mut [u8], at: usize)
-    ensures { λ _. ⌜ now (out .exit) ≡ emitted at funcEpilogue (now (out .entry)) ⌝ }
+// The layout of its instructions, nothing behind them, and the number of records.
+pub fn survey(tables: &[u8], offsets: &[u64], sheet: &[u8], total: Number, from: Cursor) -> Ready
+    requires { ⌜ Opens (now tables) (now sheet) (now offsets) total from ⌝ }
+    requires { ⌜ length (now offsets) ≤ 256 ⌝ }
+    ensures { λ r. ⌜ readySays r ≡ countedOutcome (compiled (now (tables .entry)) (now (sheet .entry))) ⌝ }
+    ensures { λ r. ⌜ LendsIf r (now (tables .entry)) (now (sheet .entry)) (now (offsets .entry)) ⌝ }
 {
-    if 3 <= room(out.len(), at) {
-        put_three(out, at, frame_left(), pop_rbp(), ret());
+    match survey_body(tables, offsets, sheet, from) {
+        Surveyed::Laid(body, end) => match end_check(2, sheet, end) {
+            Checked::Behind(_) => count_list(tables, offsets, sheet, total, from, body),
+            Checked::Refused(number, cell) => Ready::Refused(number, cell as u64),
+        },
+        Surveyed::Wrong(number, cell) => Ready::Refused(number, cell as u64),
     }
 }
 
-// The epilogue behind the `made` records, unless the last of them is Ret; the number of records with it.
-fn finish(made: u64, ret: bool, out: &mut [u8]) -> u64
-    requires { ⌜ made ≤ 131072 ⌝ }
-    ensures { λ r. ⌜ r ≡ made + length (ending ret) ⌝ }
-    ensures { λ r. ⌜ now (out .exit) ≡ emitted (64 * made) (ending ret) (now (out .entry)) ⌝ }
-{
-    if ret {
-        return made;
-    }
-    put_epilogue(out, 64 * made as usize);
-    made + 3
-}
-
-// The records of the function, its frame of so many bytes, from the start of `out` on.
-pub fn pass(tables: &[u8], offsets: &[u64], sheet: &[u8], bytes: u64, out: &mut [u8]) -> Answer
+// The list of `needed` records at the start of `out`, which has room for them.
+pub fn write_list(
+    tables: &[u8],
+    offsets: &[u64],
+    sheet: &[u8],
+    bytes: u64,
+    needed: u64,
+    out: &mut [u8],
+)
     requires { ⌜ Laid (now sheet) ⌝ }
-    ensures { λ r. ⌜ answerSays r ≡ countedOutcome (listOf (now (tables .entry)) (now (offsets .entry)) bytes (now (sheet .entry))) ⌝ }
-    ensures { λ r. ⌜ PutList 0 (listOf (now (tables .entry)) (now (offsets .entry)) bytes (now (sheet .entry))) (now (out .entry)) (now (out .exit)) ⌝ }
+    requires { ⌜ Accepts (listOf (now tables) (now offsets) bytes (now sheet)) 0 (now out) ⌝ }
+    requires { ⌜ accepted needed ≡ countedOutcome (listOf (now tables) (now offsets) bytes (now sheet)) ⌝ }
+    ensures { λ _. ⌜ ((is : List Instruction) → listOf (now (tables .entry)) (now (offsets .entry)) bytes (now (sheet .entry)) ≡ accepted is → now (out .exit) ≡ write (now (out .entry)) 0 (listBytes is)) ⌝ }
 {
-    let from = 6 + 2 * cell_at(sheet, 0) as usize;
-    let first = match func_prologue(tables, offsets, sheet, cell_at(sheet, 1), from, bytes, out) {
+    let params = 6 + 2 * cell_at(sheet, 0) as usize;
+    let first = match func_prologue(
+        tables,
+        offsets,
+        sheet,
+        cell_at(sheet, 1),
+        params,
+        bytes,
+        out,
+    ) {
         Made::Records(first) => first,
-        Made::Refused(number) => return Answer::Refused(number, 0),
+        Made::Refused(_) => return,
     };
-    match body(tables, offsets, sheet, first, out) {
-        Passed::Made(rest, ret) => Answer::Accepted(finish(first + rest, ret, out)),
-        Passed::Refused(number, place) => Answer::Refused(number, place),
+    let made = first + write_body(tables, offsets, sheet, first, out);
+    if made < needed {
+        put_three(out, 64 * made as usize, frame_left(), pop_rbp(), ret());
     }
 }
