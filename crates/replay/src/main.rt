@@ -7,9 +7,6 @@ use cells::cell_at;
 use cells::put_word;
 use generation::Answer;
 use generation::generate;
-use layout::Checked;
-use layout::sheet::sheet_check;
-use layout::tables::tables_check;
 use plain::Plainness;
 use plain::plain;
 ghost use mathlib.Core.Path.{_≡_};
@@ -190,22 +187,20 @@ fn difference(index: u64, what: u64, counts: &mut [u64; 16]) {
     count(counts, DIFFERENCES, 1);
 }
 
-// Writes and counts a refusal by the checks.
-fn refused(index: u64, n: u64, place: usize, counts: &mut [u64; 16]) {
-    print_line(index, n, place as u64);
+// Writes and counts a refusal by the checks of the layout.
+fn refused(index: u64, n: u64, place: u64, counts: &mut [u64; 16]) {
     if n < 4 {
+        print_line(index, n, place);
         count(counts, CHECKS + n as usize, 1);
     }
 }
 
-// The checks of one case.
+// The checks of one case, without room for a record.
 fn check(index: u64, tables: &[u8], sheet: &[u8], counts: &mut [u64; 16]) {
-    match tables_check(tables) {
-        Checked::Behind(_) => match sheet_check(sheet) {
-            Checked::Behind(_) => {}
-            Checked::Refused(n, k) => refused(index, n, k, counts),
-        },
-        Checked::Refused(n, k) => refused(index, n, k, counts),
+    let mut none = [0u8; 1];
+    match generate(tables, sheet, &mut none) {
+        Answer::Accepted(_) => {}
+        Answer::Refused(n, place) => refused(index, n, place, counts),
     }
 }
 

@@ -1,7 +1,7 @@
 use borrow.Author.Needs.{needs}
 use lib.ListN.{length}
 use mathlib.Core.Path.{_≡_}
-use Prim.Native.Nat.{_≤_, _-_}
+use Prim.Native.Nat.{_-_}
 use Rattle.replay.proofs.bytes_in.Statement.{statement}
 use Rattle.replay.proofs.bytes_in.Tie as tie
 
