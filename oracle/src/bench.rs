@@ -12,80 +12,109 @@ use crate::program::program;
 use crate::rng::Rng;
 use crate::sheet::*;
 use krc::codegen::generation::generate;
+use krc::converter::ir::structs::Program;
 use krc::elf::file::KEEP;
 
 const LENGTHS: [usize; 4] = [10, 40, 400, 4_096];
 const ROUNDS: usize = 41;
 /// Instructions lowered in one measurement, about.
 const WORK: usize = 40_960;
+/// Instructions in all of the different sheets of one length, about.
+const DIFFERENT: usize = 8_192;
 
-/// Nanoseconds a call, the median of all rounds.
-struct Times {
-    ours: f64,
-    refused: f64,
-    krc: f64,
-    copy: f64,
-    plain: f64,
+/// The sheets of a row, which are lowered one after the other into the same bytes.
+struct Row {
+    length: usize,
+    tables: Vec<u8>,
+    sheets: Vec<(Vec<u8>, Program, usize)>,
+    records: usize,
+    out: Vec<u8>,
+    from: Vec<u8>,
+    /// Nanoseconds for all sheets: ours, ours with no room, Krc's, a memcpy's, the plain test's.
+    rounds: [Vec<f64>; 5],
 }
 
 /// A table in Markdown for each sort of sheets.
 pub fn table() -> String {
     let mut text = String::new();
     let sorts = [
-        ("plain", plain_templates(), usize::MAX),
-        ("floats and calls", all_templates(), usize::MAX),
-        ("plain, the same hundred instructions again and again", plain_templates(), 100),
-        ("floats and calls, the same hundred instructions again and again", all_templates(), 100),
+        ("plain, one sheet", plain_templates(), false),
+        ("floats and calls, one sheet", all_templates(), false),
+        ("plain, different sheets", plain_templates(), true),
+        ("floats and calls, different sheets", all_templates(), true),
     ];
-    for (name, templates, period) in sorts {
+    for (name, templates, different) in sorts {
         write!(text, "\n{name}:\n\n{HEAD}").expect("text grows");
-        for length in LENGTHS {
-            let sheet = sheet(&templates, length, period);
-            let (times, records) = measure(&sheet);
-            text.push_str(&row(length, records, &times));
+        let mut rng = Rng::new(9);
+        let mut rows = LENGTHS.map(|length| {
+            let count = if different { DIFFERENT / length } else { 1 };
+            Row::new(length, (0..count).map(|_| sheet(&templates, length, &mut rng)).collect())
+        });
+        KEEP.store(false, Ordering::Relaxed);
+        for _ in 0..ROUNDS {
+            rows.iter_mut().for_each(Row::measure);
         }
+        KEEP.store(true, Ordering::Relaxed);
+        rows.into_iter().for_each(|row| text.push_str(&row.line()));
     }
     text
 }
 
-const HEAD: &str = "| instructions | records | ours, ns a record | ours, ns an instruction \
+const HEAD: &str = "| instructions | sheets | records | ours, ns a record | ours, ns an instruction \
     | ours / Krc | ours / memcpy | refusal 9 / ours | plain test / ours |\n\
-    |---|---|---|---|---|---|---|---|\n";
+    |---|---|---|---|---|---|---|---|---|\n";
 
-fn row(length: usize, records: usize, times: &Times) -> String {
-    let Times { ours, refused, krc, copy, plain } = times;
-    format!(
-        "| {length} | {records} | {:.2} | {:.2} | {:.3} | {:.2} | {:.2} | {:.2} |\n",
-        ours / records as f64,
-        ours / length as f64,
-        ours / krc,
-        ours / copy,
-        refused / ours,
-        plain / ours,
-    )
-}
-
-fn measure(sheet: &Sheet) -> (Times, usize) {
-    let tables = Tables { strings: 1, floats: vec![false, true] };
-    let krc_program = program(&tables, sheet, sheet.body.len());
-    let (tables, cells) = (to_bytes(&tables.cells()), to_bytes(&sheet.cells()));
-    let records = lower_into(&tables, &cells, &mut []).place as usize;
-    let mut out = vec![0; records * RECORD];
-    assert_eq!(lower_into(&tables, &cells, &mut out).number, 0, "the sheet is accepted");
-    let from = out.clone();
-    let calls = (WORK / sheet.body.len()).max(1);
-    let mut rounds: [Vec<f64>; 5] = Default::default();
-    KEEP.store(false, Ordering::Relaxed);
-    for _ in 0..ROUNDS {
-        rounds[0].push(time(calls, || _ = black_box(lower_into(&tables, &cells, &mut out))));
-        rounds[1].push(time(calls, || _ = black_box(lower_into(&tables, &cells, &mut []))));
-        rounds[2].push(time(calls, || drop(black_box(generate(&krc_program)))));
-        rounds[3].push(time(calls, || black_box(&mut out).copy_from_slice(black_box(&from))));
-        rounds[4].push(time(calls, || _ = black_box(plain(&tables, &cells))));
+impl Row {
+    fn new(length: usize, sheets: Vec<Sheet>) -> Row {
+        let tables = Tables { strings: 1, floats: vec![false, true] };
+        let bytes = to_bytes(&tables.cells());
+        let sheets: Vec<_> = sheets
+            .into_iter()
+            .map(|sheet| {
+                let cells = to_bytes(&sheet.cells());
+                let records = lower_into(&bytes, &cells, &mut []).place as usize;
+                (cells, program(&tables, &sheet, sheet.body.len()), records)
+            })
+            .collect();
+        let most = sheets.iter().map(|sheet| sheet.2).max().expect("a sheet");
+        let mut out = vec![0; most * RECORD];
+        for (cells, _, _) in &sheets {
+            assert_eq!(lower_into(&bytes, cells, &mut out).number, 0, "the sheet is accepted");
+        }
+        let records = sheets.iter().map(|sheet| sheet.2).sum();
+        let from = out.clone();
+        Row { length, tables: bytes, sheets, records, out, from, rounds: Default::default() }
     }
-    KEEP.store(true, Ordering::Relaxed);
-    let [ours, refused, krc, copy, plain] = rounds.map(median);
-    (Times { ours, refused, krc, copy, plain }, records)
+
+    fn measure(&mut self) {
+        let Row { length, tables, sheets, out, from, rounds, .. } = self;
+        let passes = (WORK / (*length * sheets.len())).max(1);
+        let mut push = |k: usize, call: &mut dyn FnMut(&(Vec<u8>, Program, usize))| {
+            rounds[k].push(time(passes, || sheets.iter().for_each(&mut *call)));
+        };
+        push(0, &mut |(cells, _, _)| _ = black_box(lower_into(tables, cells, out)));
+        push(1, &mut |(cells, _, _)| _ = black_box(lower_into(tables, cells, &mut [])));
+        push(2, &mut |(_, program, _)| drop(black_box(generate(program))));
+        push(3, &mut |(_, _, records)| {
+            let bytes = records * RECORD;
+            black_box(&mut out[..bytes]).copy_from_slice(black_box(&from[..bytes]));
+        });
+        push(4, &mut |(cells, _, _)| _ = black_box(plain(tables, cells)));
+    }
+
+    fn line(self) -> String {
+        let (length, records, sheets) = (self.length, self.records, self.sheets.len());
+        let [ours, refused, krc, copy, plain] = self.rounds.map(median);
+        format!(
+            "| {length} | {sheets} | {records} | {:.2} | {:.2} | {:.3} | {:.2} | {:.2} | {:.2} |\n",
+            ours / records as f64,
+            ours / (length * sheets) as f64,
+            ours / krc,
+            ours / copy,
+            refused / ours,
+            plain / ours,
+        )
+    }
 }
 
 fn time(calls: usize, mut call: impl FnMut()) -> f64 {
@@ -148,12 +177,10 @@ fn all_templates() -> Vec<Instr> {
     all
 }
 
-/// `length` instructions, drawn from the templates, and again in the same order behind `period` of them; each label stands once.
-fn sheet(templates: &[Instr], length: usize, period: usize) -> Sheet {
-    let mut rng = Rng::new(9);
-    let drawn: Vec<usize> = (0..period.min(length)).map(|_| rng.below(templates.len())).collect();
+/// `length` instructions, drawn from the templates; each label stands once.
+fn sheet(templates: &[Instr], length: usize, rng: &mut Rng) -> Sheet {
     let mut body: Vec<Instr> = (1..length)
-        .map(|k| templates[drawn[(k - 1) % drawn.len()]].clone())
+        .map(|_| templates[rng.below(templates.len())].clone())
         .map(|instr| if matches!(instr, Instr::Label(_)) { Instr::Comment } else { instr })
         .collect();
     body.push(Instr::Label(0));
