@@ -27,6 +27,39 @@ ghost use Rattle.x86.specs.Registers.{RCX};
 ghost use Rattle.codegen.specs.Arithmetic.{simpleOperation, floatOperation, signInto, division, multiplication, shift};
 ghost use Rattle.utils.specs.Answers.{lent};
 ghost use Rattle.records.specs.Records.{recordsSay, encoded};
+ghost use Rattle.operations.specs.Loads.{oneLoad, twoLoaded};
+
+// Left into a register, the operation on it and right, and its store to dest.
+fn one_load(
+    tables: &[u8],
+    offsets: &[u64],
+    dest: VarId,
+    left: IrOp,
+    right: IrOp,
+    reg: Register,
+    op: BinOp,
+    store: BinOp,
+) -> Records
+    ensures { λ r. ⌜ recordsSay r ≡ encoded (oneLoad (lent (now (tables .entry)) (now (offsets .entry))) dest left right reg op store) ⌝ }
+{
+    let size = match var_size(dest) {
+        Sized::Is(size) => size,
+        Sized::Refused(n) => return Records::Refused(n),
+    };
+    let load = match load_operand(tables, offsets, reg, left, size) {
+        Loaded::Is(load) => load,
+        Loaded::Refused(n) => return Records::Refused(n),
+    };
+    let src = match convert_operand(tables, offsets, right) {
+        Placed::Is(src) => src,
+        Placed::Refused(n) => return Records::Refused(n),
+    };
+    let x = Operand::Reg(reg);
+    match convert_var(tables, offsets, dest) {
+        Placed::Is(var) => three(load, binary(op, x, src, size), binary(store, var, x, size)),
+        Placed::Refused(n) => Records::Refused(n),
+    }
+}
 
 // `mov rax, left ; op rax, right ; mov [dest], rax`
 pub fn simple_operation(
@@ -39,23 +72,16 @@ pub fn simple_operation(
 ) -> Records
     ensures { λ r. ⌜ recordsSay r ≡ encoded (simpleOperation (lent (now (tables .entry)) (now (offsets .entry))) dest left right op) ⌝ }
 {
-    let rax = Operand::Reg(Register::RAX);
-    let size = match var_size(dest) {
-        Sized::Is(size) => size,
-        Sized::Refused(n) => return Records::Refused(n),
-    };
-    let load = match load_operand(tables, offsets, Register::RAX, left, size) {
-        Loaded::Is(load) => load,
-        Loaded::Refused(n) => return Records::Refused(n),
-    };
-    let src = match convert_operand(tables, offsets, right) {
-        Placed::Is(src) => src,
-        Placed::Refused(n) => return Records::Refused(n),
-    };
-    match convert_var(tables, offsets, dest) {
-        Placed::Is(var) => three(load, binary(op, rax, src, size), mov(var, rax, size)),
-        Placed::Refused(n) => Records::Refused(n),
-    }
+    one_load(
+        tables,
+        offsets,
+        dest,
+        left,
+        right,
+        Register::RAX,
+        op,
+        BinOp::Mov,
+    )
 }
 
 // `movsd xmm0, left ; op xmm0, right ; movsd [dest], xmm0`
@@ -69,27 +95,16 @@ pub fn float_operation(
 ) -> Records
     ensures { λ r. ⌜ recordsSay r ≡ encoded (floatOperation (lent (now (tables .entry)) (now (offsets .entry))) dest left right op) ⌝ }
 {
-    let xmm0 = Operand::Reg(Register::XMM0);
-    let size = match var_size(dest) {
-        Sized::Is(size) => size,
-        Sized::Refused(n) => return Records::Refused(n),
-    };
-    let load = match load_operand(tables, offsets, Register::XMM0, left, size) {
-        Loaded::Is(load) => load,
-        Loaded::Refused(n) => return Records::Refused(n),
-    };
-    let src = match convert_operand(tables, offsets, right) {
-        Placed::Is(src) => src,
-        Placed::Refused(n) => return Records::Refused(n),
-    };
-    match convert_var(tables, offsets, dest) {
-        Placed::Is(var) => three(
-            load,
-            binary(op, xmm0, src, size),
-            binary(BinOp::StoreF, var, xmm0, size),
-        ),
-        Placed::Refused(n) => Records::Refused(n),
-    }
+    one_load(
+        tables,
+        offsets,
+        dest,
+        left,
+        right,
+        Register::XMM0,
+        op,
+        BinOp::StoreF,
+    )
 }
 
 // Cdq for four bytes, else Cqo.
@@ -164,6 +179,32 @@ pub fn division(
     five(a, b, extend, divided(ComplexBinOp::Idiv, size), store)
 }
 
+// Left in RAX, right in RCX, a record on the two, and RAX's store to dest, of so many bytes.
+fn two_loads(
+    tables: &[u8],
+    offsets: &[u64],
+    dest: VarId,
+    left: IrOp,
+    right: IrOp,
+    size: Size,
+    i: Instruction,
+) -> Records
+    ensures { λ r. ⌜ recordsSay r ≡ encoded (twoLoaded (lent (now (tables .entry)) (now (offsets .entry))) dest left right size i) ⌝ }
+{
+    let a = match load_operand(tables, offsets, Register::RAX, left, size) {
+        Loaded::Is(a) => a,
+        Loaded::Refused(n) => return Records::Refused(n),
+    };
+    let b = match load_operand(tables, offsets, Register::RCX, right, size) {
+        Loaded::Is(b) => b,
+        Loaded::Refused(n) => return Records::Refused(n),
+    };
+    match convert_var(tables, offsets, dest) {
+        Placed::Is(var) => four(a, b, i, mov(var, Operand::Reg(Register::RAX), size)),
+        Placed::Refused(n) => Records::Refused(n),
+    }
+}
+
 // `imul r, r/m` takes no constant, so right goes through RCX.
 pub fn multiplication(
     tables: &[u8],
@@ -174,28 +215,17 @@ pub fn multiplication(
 ) -> Records
     ensures { λ r. ⌜ recordsSay r ≡ encoded (multiplication (lent (now (tables .entry)) (now (offsets .entry))) dest left right) ⌝ }
 {
-    let rax = Operand::Reg(Register::RAX);
-    let size = match var_size(dest) {
-        Sized::Is(size) => size,
-        Sized::Refused(n) => return Records::Refused(n),
-    };
-    let a = match load_operand(tables, offsets, Register::RAX, left, size) {
-        Loaded::Is(a) => a,
-        Loaded::Refused(n) => return Records::Refused(n),
-    };
-    let b = match load_operand(tables, offsets, Register::RCX, right, size) {
-        Loaded::Is(b) => b,
-        Loaded::Refused(n) => return Records::Refused(n),
-    };
-    let multiply = Instruction::ComplexBinary {
-        op: ComplexBinOp::Imul,
-        dst: rax,
-        src: Operand::Reg(Register::RCX),
-        size,
-    };
-    match convert_var(tables, offsets, dest) {
-        Placed::Is(var) => four(a, b, multiply, mov(var, rax, size)),
-        Placed::Refused(n) => Records::Refused(n),
+    match var_size(dest) {
+        Sized::Is(size) => {
+            let multiply = Instruction::ComplexBinary {
+                op: ComplexBinOp::Imul,
+                dst: Operand::Reg(Register::RAX),
+                src: Operand::Reg(Register::RCX),
+                size,
+            };
+            two_loads(tables, offsets, dest, left, right, size, multiply)
+        }
+        Sized::Refused(n) => Records::Refused(n),
     }
 }
 
@@ -210,27 +240,16 @@ pub fn shift(
 ) -> Records
     ensures { λ r. ⌜ recordsSay r ≡ encoded (shift (lent (now (tables .entry)) (now (offsets .entry))) dest left right op) ⌝ }
 {
-    let rax = Operand::Reg(Register::RAX);
-    let size = match var_size(dest) {
-        Sized::Is(size) => size,
-        Sized::Refused(n) => return Records::Refused(n),
-    };
-    let a = match load_operand(tables, offsets, Register::RAX, left, size) {
-        Loaded::Is(a) => a,
-        Loaded::Refused(n) => return Records::Refused(n),
-    };
-    let b = match load_operand(tables, offsets, Register::RCX, right, size) {
-        Loaded::Is(b) => b,
-        Loaded::Refused(n) => return Records::Refused(n),
-    };
-    let moved = Instruction::Shift {
-        op,
-        dst: rax,
-        src: Operand::Reg(Register::RCX),
-        size,
-    };
-    match convert_var(tables, offsets, dest) {
-        Placed::Is(var) => four(a, b, moved, mov(var, rax, size)),
-        Placed::Refused(n) => Records::Refused(n),
+    match var_size(dest) {
+        Sized::Is(size) => {
+            let moved = Instruction::Shift {
+                op,
+                dst: Operand::Reg(Register::RAX),
+                src: Operand::Reg(Register::RCX),
+                size,
+            };
+            two_loads(tables, offsets, dest, left, right, size, moved)
+        }
+        Sized::Refused(n) => Records::Refused(n),
     }
 }
