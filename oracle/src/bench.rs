@@ -30,8 +30,8 @@ struct Row {
     records: usize,
     out: Vec<u8>,
     from: Vec<u8>,
-    /// Nanoseconds for all sheets: ours, ours with no room, Krc's, a memcpy's, the plain test's.
-    rounds: [Vec<f64>; 5],
+    /// Nanoseconds for all sheets: ours, ours with no room, Krc's, a memcpy's of the list, one's a record, the plain test's.
+    rounds: [Vec<f64>; 6],
 }
 
 /// A table in Markdown for each sort of sheets.
@@ -61,8 +61,8 @@ pub fn table() -> String {
 }
 
 const HEAD: &str = "| instructions | sheets | records | ours, ns a record | ours, ns an instruction \
-    | ours / Krc | ours / memcpy | refusal 9 / ours | plain test / ours |\n\
-    |---|---|---|---|---|---|---|---|---|\n";
+    | ours / Krc | ours / memcpy | ours / memcpy a record | refusal 9 / ours | plain test / ours |\n\
+    |---|---|---|---|---|---|---|---|---|---|\n";
 
 impl Row {
     fn new(length: usize, sheets: Vec<Sheet>) -> Row {
@@ -99,21 +99,36 @@ impl Row {
             let bytes = records * RECORD;
             black_box(&mut out[..bytes]).copy_from_slice(black_box(&from[..bytes]));
         });
-        push(4, &mut |(cells, _, _)| _ = black_box(plain(tables, cells)));
+        push(4, &mut |(_, _, records)| copy_each(&mut out[..records * RECORD], from));
+        push(5, &mut |(cells, _, _)| _ = black_box(plain(tables, cells)));
     }
 
     fn line(self) -> String {
         let (length, records, sheets) = (self.length, self.records, self.sheets.len());
-        let [ours, refused, krc, copy, plain] = self.rounds.map(median);
+        let [ours, refused, krc, copy, each, plain] = self.rounds.map(median);
         format!(
-            "| {length} | {sheets} | {records} | {:.2} | {:.2} | {:.3} | {:.2} | {:.2} | {:.2} |\n",
+            "| {length} | {sheets} | {records} | {:.2} | {:.2} | {:.3} | {:.2} | {:.2} | {:.2} | {:.2} |\n",
             ours / records as f64,
             ours / (length * sheets) as f64,
             ours / krc,
             ours / copy,
+            ours / each,
             refused / ours,
             plain / ours,
         )
+    }
+}
+
+unsafe extern "C" {
+    fn memcpy(to: *mut u8, from: *const u8, bytes: usize) -> *mut u8;
+}
+
+/// Copies records one by one, each by a call of C's memcpy.
+fn copy_each(to: &mut [u8], from: &[u8]) {
+    let copy = black_box(memcpy as unsafe extern "C" fn(*mut u8, *const u8, usize) -> *mut u8);
+    for (to, from) in to.chunks_exact_mut(RECORD).zip(from.chunks_exact(RECORD)) {
+        // SAFETY: both are RECORD bytes, of different buffers.
+        unsafe { copy(to.as_mut_ptr(), from.as_ptr(), RECORD) };
     }
 }
 
