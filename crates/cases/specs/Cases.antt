@@ -1,5 +1,5 @@
 -- The twelve cases of 01 as one table: what the definitions give, and what 01 says. Sheets are given by their cells, values by a run.
-use Prim.Native.Nat.{ℕ, _*_, _^_, _-_}
+use Prim.Native.Nat.{ℕ, _*_}
 use mathlib.Core.Path.{_≡_}
 use mathlib.Core.Bool.{false}
 use mathlib.Core.List.{List, [], _∷_, _++_, map}

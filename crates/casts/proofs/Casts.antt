@@ -21,7 +21,6 @@ use Rattle.x86.specs.Records.{Record, recordOf}
 use Rattle.codegen.specs.Context.{Context}
 use Rattle.codegen.specs.Utils.{sizeFrom, varSize, convertVar}
 use Rattle.codegen.specs.Instructions.{Kind, Source, move, castOperand, widened, converted, extended, castBetween}
-use Rattle.codegen.proofs.Results.{Yields}
 use Rattle.codegen.proofs.Shapes.{source-brief}
 use Rattle.records.specs.Records.{recordsOf, encoded}
 use Rattle.casts.specs.Casts.{Brought, brought, broughtOf, broughtAll, widenedRecords, convertedRecords, extendedRecords, toFloat, toInteger, betweenRecords, castRecords}

@@ -1,14 +1,14 @@
 -- Laws of byte lists and cells: pieces written one behind the other are one piece, and a number's eight bytes read back as the number.
 use Prim.Native.Nat.{ℕ, _+_, _*_, _/_, _%_, _^_, _≤_, _<_}
-use mathlib.Core.Path.{_≡_, refl, sym, ap, ap₂, _∙_}
+use mathlib.Core.Path.{_≡_, refl, sym, ap, _∙_}
 use mathlib.Core.List.{List, [], _∷_, _++_, append-assoc}
 use native.Mathlib.Numerals.{add-one, add-two, add-three, add-four, add-five, add-six, add-seven}
 use native.Mathlib.Nat.{add-assoc, add-zero, mod-mod, mod-eq-of-lt, div-div-eq-div-mul}
 use lib.Arith.{mod-mul}
 use native.Mathlib.Omega.{arith}
 use lib.ListN.{length, getD, take, drop, set, length-append, length-take, length-drop}
-use lib.Seq.{sets, sets-eq, take-at, drop-at, drop-drop, getD-append-add}
-use Rattle.cells.specs.Cells.{write, bytesOf, byteAt, half, word}
+use lib.Seq.{sets-eq, take-at, drop-at, drop-drop, getD-append-add}
+use Rattle.cells.specs.Cells.{write, bytesOf, half, word}
 
 -- ---- pieces
 

@@ -1,6 +1,6 @@
 // Cells: eight bytes of a lent slice, little-endian. A cell is a u64; a negative number is its two's complement pattern.
 ghost use mathlib.Core.Path.{_≡_};
-ghost use Prim.Native.Nat.{_+_, _*_, _≤_, _<_, _^_};
+ghost use Prim.Native.Nat.{_+_, _*_, _≤_, _<_};
 ghost use lib.ListN.{length};
 ghost use Rattle.cells.specs.Cells.{half, word, cells, cellAt, readCell, readWithin, bytesOf, write};
 

@@ -1,6 +1,6 @@
 -- What holds of every value that a part of the lowering yields, put together along its binds.
 use Prim.Native.Nat.{ℕ}
-use mathlib.Core.Path.{_≡_, refl, sym, subst, _∙_}
+use mathlib.Core.Path.{_≡_, refl, subst}
 use mathlib.Core.Bool.{Bool, true, false, cond}
 use native.Mathlib.Omega.{arith}
 use Rattle.ir.specs.Types.{Result, ok, refused, _>>=_}

@@ -1,6 +1,6 @@
 -- The records of one instruction are few, and the last of them is Ret exactly where the instruction is a Return.
-use Prim.Native.Nat.{ℕ, zero, suc, _+_, _-_, _<_, _≤_}
-use mathlib.Core.Path.{_≡_, refl, sym, ap, _∙_}
+use Prim.Native.Nat.{ℕ, suc, _+_, _-_, _<_, _≤_}
+use mathlib.Core.Path.{_≡_, refl, _∙_}
 use mathlib.Core.Bool.{Bool, true, false, cond, not, _&&_}
 use mathlib.Core.List.{List, [], _∷_, _++_}
 use lib.ListN.{length, getD, length-append}
@@ -13,7 +13,7 @@ use Rattle.ir.specs.declared.Operand.{Operand as IrOp}
 use Rattle.ir.specs.declared.UnaryOp.{UnaryOp as IrUnary}
 use Rattle.ir.specs.declared.Dest.{Dest}
 use Rattle.ir.specs.declared.Instr.{Instr}
-use Rattle.ir.specs.Types.{Result, ok, refused, _>>=_, typeSize, isFloat, isUnsigned}
+use Rattle.ir.specs.Types.{_>>=_, typeSize, isFloat, isUnsigned}
 use Rattle.ir.specs.Function.{BinaryOp, binaryOp}
 use Rattle.x86.specs.declared.register.Register.{Register}
 use Rattle.x86.specs.declared.enums.Size.{Size}
@@ -28,7 +28,7 @@ use Rattle.x86.specs.Registers.{xmm, RAX, RCX, RDX}
 use Rattle.x86.specs.Records.{conditionCode}
 use Rattle.codegen.specs.Context.{Context, labelAt}
 use Rattle.codegen.specs.Utils.{sizeFrom, varSize, convertVar, convertOperand, loadOperand}
-use Rattle.codegen.specs.Instructions.{move, Kind, operandKind, isCopy, Source, source, widened, converted, extended, castOperand, castBetween, generateReturn, generateCopy, generateCast, generateZero, paramRegs, paramFregs, floating, loadArgument, loadArguments, storeResult, generateCall, generateJmpIfNot, generateLabel, generateJump}
+use Rattle.codegen.specs.Instructions.{move, operandKind, isCopy, Source, source, widened, converted, extended, castOperand, castBetween, generateReturn, generateCopy, generateCast, generateZero, paramRegs, paramFregs, floating, loadArgument, loadArguments, storeResult, generateCall, generateJmpIfNot, generateLabel, generateJump}
 use Rattle.codegen.specs.Arithmetic.{simpleOperation, floatOperation, twoLoads, dividing, division, multiplication, shift, parity, ordered, isSwapped, floatCode, unsignedCode, compared, floatComparison, comparison, floatBinary, integerBinary, generateBinary, unaryRecords, generateUnary}
 use Rattle.codegen.specs.Generation.{generateInstr, isRet, endsInRet}
 use Rattle.codegen.proofs.Results.{Yields, yields, refuses, any, bind, weaken, choose, guard}

@@ -23,7 +23,7 @@ use Rattle.x86.specs.Registers.{xmm, RAX, RCX, RDX}
 use Rattle.x86.specs.Records.{conditionCode}
 use Rattle.codegen.specs.Context.{Context}
 use Rattle.codegen.specs.Utils.{sizeFrom, varSize, convertVar, convertOperand, loadOperand}
-use Rattle.codegen.specs.Instructions.{move, Kind, operandKind}
+use Rattle.codegen.specs.Instructions.{move, operandKind}
 
 -- `mov rax, left ; op rax, right ; mov [dest], rax`
 unfoldable pub simpleOperation : Context → VarId → IrOp → IrOp → BinOp → Result (List Instruction)

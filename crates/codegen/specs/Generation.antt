@@ -13,7 +13,6 @@ use Rattle.ir.specs.Types.{Result, ok}
 use Rattle.ir.specs.Function.{Tables, Function, Line, binaryOp, tablesOf, functionOf}
 use Rattle.layout.specs.Layout.{tablesCheck, sheetCheck}
 use Rattle.x86.specs.declared.enums.CtrlOp.{CtrlOp}
-use Rattle.x86.specs.declared.enums.Operand.{Operand}
 use Rattle.x86.specs.declared.enums.Instruction.{Instruction}
 use Rattle.x86.specs.Records.{listBytes}
 use Rattle.codegen.specs.Context.{Context, contextOf}

@@ -1,9 +1,9 @@
 -- Krc's `Type` and its answers (parser/postparser/structs.rs), Krc's `Operand::size` (converter/ir/structs.rs), and 01's type codes.
 use Prim.Native.Nat.{ℕ, _+_, _*_, _^_, _-_, min}
 use mathlib.Core.List.{List, [], _∷_}
-use mathlib.Core.Bool.{Bool, true, false, cond, not, _&&_, _||_}
+use mathlib.Core.Bool.{Bool, cond, not, _&&_, _||_}
 use lib.ListN.{getD}
-use lib.Dec.{eqb, leb}
+use lib.Dec.{eqb}
 use Rattle.x86.specs.declared.enums.Size.{Size}
 use Rattle.ir.specs.declared.«Type».{«Type» as IrType}
 use Rattle.ir.specs.declared.Operand.{Operand}

@@ -8,7 +8,7 @@ use native.Mathlib.Omega.{arith}
 use borrow.Author.Tests.{lt-ltb, le-ltb, ltb-true, leb-true, leb-false}
 use lib.Arith.{mod-mul, digits-mod}
 use lib.Pow.{pow-add, mod-mod-pow, field}
-use Rattle.machine.specs.Word.{W, bound, byte, number, above, store, sign, widen, bitwise, bitAnd, bitOr, bitXor}
+use Rattle.machine.specs.Word.{W, bound, byte, number, above, store, sign, widen, bitwise}
 use Rattle.machine.specs.Machine.{keepsUpper, merge}
 
 pub bound-pos : (n : ℕ) → 0 < bound n

@@ -1,7 +1,7 @@
 -- Demand 2: what the System V ABI asks of every accepted list, with its floats and calls (01, the demands; System V ABI, 3.2.2 and 3.2.3).
 use Prim.Native.Nat.{ℕ, suc, _+_, _-_, _%_, _<_, _≤_}
 use mathlib.Core.Path.{_≡_}
-use mathlib.Core.Bool.{Bool, true, false, cond, not}
+use mathlib.Core.Bool.{Bool, true, false, cond}
 use mathlib.Core.List.{List, [], _∷_}
 use mathlib.Core.Option.{some}
 use lib.Dec.{eqb}
@@ -12,18 +12,18 @@ use Rattle.ir.specs.declared.Operand.{Operand as IrOp}
 use Rattle.ir.specs.declared.Dest.{Dest}
 use Rattle.ir.specs.declared.Instr.{Instr}
 use Rattle.ir.specs.Types.{isFloat, isScalar, elementWidth, bytes}
-use Rattle.ir.specs.Function.{Function, Line, Tables, tablesOf, functionOf}
+use Rattle.ir.specs.Function.{Function, Tables, tablesOf, functionOf}
 use Rattle.x86.specs.declared.mem_address.Base.{Base}
 use Rattle.x86.specs.declared.enums.Size.{Size}
 use Rattle.x86.specs.declared.enums.Operand.{Operand}
 use Rattle.x86.specs.declared.enums.BinOp.{BinOp}
 use Rattle.x86.specs.declared.enums.CtrlOp.{CtrlOp}
 use Rattle.x86.specs.declared.enums.Instruction.{Instruction}
-use Rattle.x86.specs.Registers.{RSP, rbpPlus}
+use Rattle.x86.specs.Registers.{RSP}
 use Rattle.x86.specs.Decode.{decodeList}
 use Rattle.machine.specs.Word.{W, bound, store, load}
 use Rattle.machine.specs.Machine as x86
-use Rattle.machine.specs.Machine.{State, Choice, read}
+use Rattle.machine.specs.Machine.{State, Choice}
 use Rattle.machine.specs.Frames.{frameSize, slotOf, sizeOf, Framed}
 use Rattle.machine.specs.Simulation.{Entry, base, abiRegisters, place}
 

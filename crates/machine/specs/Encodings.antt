@@ -5,7 +5,6 @@ use mathlib.Core.Bool.{Bool, true, false, cond, not, _&&_, _||_}
 use lib.Dec.{ltb, leb, eqb}
 use Rattle.x86.specs.declared.register.Register.{Register}
 use Rattle.x86.specs.declared.mem_address.Base.{Base}
-use Rattle.x86.specs.declared.mem_address.MemAddress.{MemAddress}
 use Rattle.x86.specs.declared.enums.Size.{Size}
 use Rattle.x86.specs.declared.enums.Operand.{Operand}
 use Rattle.x86.specs.declared.enums.BinOp.{BinOp}

@@ -2,11 +2,11 @@
 use Prim.Native.Nat.{ℕ, suc, _+_, _*_, _-_, _%_, _<_, _≤_}
 use mathlib.Core.Path.{_≡_}
 use mathlib.Core.Logic.{_↔_}
-use mathlib.Core.Bool.{true, false, cond}
+use mathlib.Core.Bool.{false, cond}
 use mathlib.Core.List.{List, [], _∷_, _++_}
 use mathlib.Core.Option.{some}
 use lib.Dec.{ltb}
-use lib.ListN.{length, getD, take}
+use lib.ListN.{length, take}
 use Rattle.ir.specs.declared.VarId.{VarId}
 use Rattle.ir.specs.Types as types
 use Rattle.ir.specs.Types.{Result, ok, bytes}
@@ -21,7 +21,6 @@ use Rattle.machine.specs.Machine as x86
 use Rattle.machine.specs.Machine.{State, Choice}
 use Rattle.machine.specs.Steps as steps
 use Rattle.machine.specs.Steps.{Values, put, arrive}
-use Rattle.machine.specs.Plain.{Plain}
 use Rattle.machine.specs.Frames.{frameSize, slotByte, sizeOf}
 
 -- ---- entry, by the System V ABI, 3.2.2 and 3.2.3

@@ -7,7 +7,7 @@ use ir::read::type_at;
 use ir::read::var_at;
 ghost use mathlib.Core.Path.{_≡_};
 ghost use Prim.Native.Nat.{_+_, _*_, _≤_};
-ghost use Rattle.cells.specs.Cells.{cells, cellAt};
+ghost use Rattle.cells.specs.Cells.{cells};
 ghost use Rattle.ir.specs.Function.{functionOf, typesAt, varsAt, paramsFrom, bodyFrom};
 ghost use Rattle.machine.specs.Plain.{every, isScalarVar, isAbsent, areDistinct, isPlainHead};
 ghost use Rattle.plain.specs.Parts.{hasPlainCode};

@@ -5,10 +5,9 @@ use mathlib.Core.List.{List, [], _∷_, _++_, append-nil, append-assoc}
 use mathlib.Core.Bool.{Bool}
 use native.Mathlib.Omega.{arith}
 use borrow.Author.Tests.{le-leb, lt-leb}
-use lib.Dec.{leb}
 use lib.ListN.{length, length-append}
 use Rattle.cells.specs.Cells.{write}
-use Rattle.cells.proofs.Bytes.{write-write, write-length}
+use Rattle.cells.proofs.Bytes.{write-write}
 use Rattle.ir.specs.Types.{Result, ok, refused}
 use Rattle.ir.specs.Answers.{numberSays}
 use Rattle.ir.specs.declared.types.Number.{Number}
@@ -21,8 +20,7 @@ use Rattle.utils.specs.declared.Flag.{Flag}
 use Rattle.utils.specs.declared.Sized.{Sized}
 use Rattle.utils.specs.declared.Placed.{Placed}
 use Rattle.utils.specs.declared.Loaded.{Loaded}
-use Rattle.utils.specs.declared.Made.{Made}
-use Rattle.utils.specs.Answers.{flagSays, sizedSays, placedSays, loadedSays, madeSays, emitted}
+use Rattle.utils.specs.Answers.{flagSays, sizedSays, placedSays, loadedSays, emitted}
 
 -- ---- bytes of lists
 

@@ -1,12 +1,11 @@
 -- Decoding reads back what was written: of each instruction that has a record, and of a list in its bytes.
-use Prim.Native.Nat.{ℕ, zero, suc, _+_, _*_, _-_, _^_, _<_, _≤_}
+use Prim.Native.Nat.{ℕ, _+_, _*_, _-_, _^_, _<_}
 use mathlib.Core.Path.{_≡_, refl, sym, ap, ap₂, _∙_}
 use mathlib.Core.List.{List, [], _∷_, _++_, append-assoc}
-use mathlib.Core.Option.{Option, none, some}
-use mathlib.Core.Bool.{Bool, true, false, cond, _&&_}
-use lib.Dec.{eqb, ltb, lit<}
+use mathlib.Core.Option.{some}
+use mathlib.Core.Bool.{true}
+use lib.Dec.{lit<}
 use lib.ListN.{length, length-append}
-use native.Mathlib.Nat.{add-zero}
 use native.Mathlib.Omega.{arith}
 use borrow.Author.Tests.{lt-ltb, le-ltb, eq-eqb}
 use Rattle.cells.specs.Cells.{bytesOf, word}

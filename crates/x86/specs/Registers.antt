@@ -4,7 +4,6 @@ use mathlib.Core.Bool.{Bool, true, false}
 use Rattle.x86.specs.declared.register.RegisterClass.{RegisterClass}
 use Rattle.x86.specs.declared.register.Register.{Register}
 use Rattle.x86.specs.declared.mem_address.Base.{Base}
-use Rattle.x86.specs.declared.mem_address.MemAddress.{MemAddress}
 use Rattle.x86.specs.declared.enums.Operand.{Operand}
 
 abbrev pub numbered : RegisterClass → ℕ → ℕ

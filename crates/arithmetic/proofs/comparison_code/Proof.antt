@@ -1,6 +1,5 @@
 use Rattle.arithmetic.proofs.Rest.{last-code}
 use Rattle.arithmetic.specs.Codes.{comparisonCode}
-use borrow.Author.Needs.{needs}
 use Rattle.arithmetic.proofs.comparison_code.Statement.{statement}
 use Rattle.arithmetic.proofs.comparison_code.Tie as tie
 

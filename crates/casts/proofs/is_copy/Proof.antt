@@ -1,5 +1,4 @@
 use Rattle.casts.proofs.Casts.{other-kind, wider, float-copy, integer-copy}
-use borrow.Author.Needs.{needs}
 use Rattle.casts.proofs.is_copy.Statement.{statement}
 use Rattle.casts.proofs.is_copy.Tie as tie
 

@@ -1,4 +1,3 @@
-use borrow.Author.Needs.{needs}
 use Rattle.casts.proofs.store_of.Statement.{statement}
 use Rattle.casts.proofs.store_of.Tie as tie
 

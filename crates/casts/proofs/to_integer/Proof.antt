@@ -1,5 +1,4 @@
 use borrow.Author.Tests.{eq-eqb, ne-eqb}
-use borrow.Author.Needs.{needs}
 use Rattle.casts.proofs.to_integer.Statement.{statement}
 use Rattle.casts.proofs.to_integer.Tie as tie
 

@@ -1,6 +1,6 @@
 use Rattle.comparisons.proofs.Rest.{asks-even, asks-odd, swaps-less, swaps-most, plain-float}
 use Rattle.records.specs.Records.{encoded}
-use mathlib.Core.Path.{ap, _∙_, sym}
+use mathlib.Core.Path.{ap, _∙_}
 use borrow.Author.Needs.{needs}
 use Rattle.comparisons.proofs.float_comparison.Statement.{statement}
 use Rattle.comparisons.proofs.float_comparison.Tie as tie

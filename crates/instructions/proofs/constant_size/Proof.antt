@@ -1,4 +1,3 @@
-use borrow.Author.Needs.{needs}
 use Rattle.instructions.proofs.constant_size.Statement.{statement}
 use Rattle.instructions.proofs.constant_size.Tie as tie
 

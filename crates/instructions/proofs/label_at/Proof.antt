@@ -1,6 +1,5 @@
 use borrow.Author.Tests.{lt-ltb, le-ltb}
 use Rattle.codegen.specs.Context.{labelAt}
-use borrow.Author.Needs.{needs}
 use Rattle.instructions.proofs.label_at.Statement.{statement}
 use Rattle.instructions.proofs.label_at.Tie as tie
 

@@ -2,7 +2,7 @@ use Rattle.lister.proofs.Listing.{listed}
 use native.Mathlib.Omega.{arith}
 use Rattle.lister.specs.Listed.{recordsListed}
 use Rattle.text.proofs.Parts.{parts-fit}
-use mathlib.Core.Path.{_≡_, sym, _∙_}
+use mathlib.Core.Path.{sym, _∙_}
 use borrow.Author.Needs.{needs}
 use Rattle.lister.proofs.list.Statement.{statement}
 use Rattle.lister.proofs.list.Tie as tie

@@ -1,9 +1,8 @@
 use Rattle.plain.proofs.Verdict.{accepted-laid, accepted-labels, accepted-says, refused-says}
 use Rattle.plain.proofs.Counts.{listed, unlisted}
-use Rattle.plain.specs.Answers.{Says}
 use Rattle.generation.specs.Answers.{answerSays}
 use Rattle.codegen.specs.Generation.{compiled}
-use mathlib.Core.Path.{_≡_, sym, ap, _∙_}
+use mathlib.Core.Path.{sym, ap, _∙_}
 use borrow.Author.Needs.{needs}
 use Rattle.plain.proofs.plain.Statement.{statement}
 use Rattle.plain.proofs.plain.Tie as tie

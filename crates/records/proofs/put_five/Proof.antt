@@ -1,6 +1,6 @@
 use mathlib.Core.List.{[], _∷_}
 use native.Mathlib.Omega.{arith}
-use Rattle.records.proofs.Written.{both, single}
+use Rattle.records.proofs.Written.{both}
 use borrow.Author.Needs.{needs}
 use Rattle.records.proofs.put_five.Statement.{statement}
 use Rattle.records.proofs.put_five.Tie as tie

@@ -1,7 +1,7 @@
 use native.Mathlib.Omega.{arith}
 use borrow.Author.Needs.{needs}
 use Rattle.text.proofs.Pieces.{no-cells, more-cells, signed-length}
-use Prim.Native.Nat.{ℕ, _<_, _-_, _+_, _*_, _≤_}
+use Prim.Native.Nat.{ℕ, _<_, _-_, _+_}
 use borrow.Fn.Kinds.{In}
 use borrow.Fn.PlainCycle.{Measures, is, falls, and}
 use Rattle.text.proofs.put_cells.Reads as put-cells

@@ -1,5 +1,5 @@
 use native.Mathlib.Omega.{arith}
-use Rattle.text.specs.Text.{okWord, refusedWord}
+use Rattle.text.specs.Text.{okWord}
 use Rattle.cells.specs.Cells.{write}
 use lib.Seq.{sets-eq}
 use mathlib.Core.Path.{refl}

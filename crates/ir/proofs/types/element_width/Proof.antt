@@ -1,4 +1,3 @@
-use mathlib.Core.Path.{_∙_}
 use native.Mathlib.Omega.{arith}
 use Rattle.ir.proofs.Rest.{wide-code, packed-width, few-bytes}
 use borrow.Author.Needs.{needs}
