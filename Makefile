@@ -24,7 +24,9 @@ INSTALL ?= install
 
 all: $(LIBRARY) $(TOOLS) $(EXAMPLES)
 
+# rt check proves two crates at a time, and rt staticlib one after the other: plain is above all that engine needs
 $(ARCHIVE): $(shell find crates crates.txt -type f)
+	rt check plain
 	rt staticlib engine
 	touch $@
 
