@@ -2,12 +2,12 @@
 use crate::count_float;
 use crate::is_float_code;
 use cells::cell_at;
+use integer_lists::put_copy;
 use integers::cellwise::bytes_at;
 use integers::cellwise::cells_record;
 use integers::cellwise::pair;
 use integers::cellwise::slot;
 use integers::cellwise::store;
-use integers::lists::put_copy;
 use integers::var_width;
 use records::put_four;
 use records::put_three;

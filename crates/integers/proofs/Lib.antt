@@ -2,5 +2,4 @@ pub mod Rest
 pub mod Quick
 pub mod Forms
 pub mod Left
-pub mod Wrote
 pub mod Right

@@ -2,7 +2,6 @@
 // sheet's cells. Any other instruction is left to the list makers, and so is one that they refuse.
 pub mod cellwise;
 pub mod laid;
-pub mod lists;
 
 use cells::cell_at;
 use ir::read::type_at;
@@ -48,7 +47,7 @@ pub fn is_integer_var(offsets: &[u64], s: &[u8], k: usize) -> bool
 }
 
 // Whether the operand at cell `k` is such a variable, or a constant that is no float and no address.
-fn is_integer_operand(offsets: &[u64], s: &[u8], k: usize) -> bool
+pub fn is_integer_operand(offsets: &[u64], s: &[u8], k: usize) -> bool
     requires { ⌜ k + 4 ≤ cells (now s) ⌝ }
     ensures { λ r. ⌜ r ≡ isIntegerOperand (length (now (offsets .entry))) (operandAt (now (s .entry)) k) ⌝ }
 {
@@ -90,14 +89,14 @@ fn count_if(holds: bool, n: u64) -> u64
 }
 
 // One of two numbers.
-fn pick(b: bool, x: u64, y: u64) -> u64
+pub fn pick(b: bool, x: u64, y: u64) -> u64
     ensures { λ r. ⌜ r ≡ cond b x y ⌝ }
 {
     if b { x } else { y }
 }
 
 // Whether dest and left are integers.
-fn are_moved(offsets: &[u64], s: &[u8], k: usize) -> bool
+pub fn are_moved(offsets: &[u64], s: &[u8], k: usize) -> bool
     requires { ⌜ k + 13 ≤ cells (now s) ⌝ }
     ensures { λ r. ⌜ r ≡ areMoved (length (now (offsets .entry))) (varAt (now (s .entry)) (k + 2)) (operandAt (now (s .entry)) (k + 5)) ⌝ }
 {
@@ -108,7 +107,7 @@ fn are_moved(offsets: &[u64], s: &[u8], k: usize) -> bool
 }
 
 // Whether dest, left and right are integers.
-fn are_integers(offsets: &[u64], s: &[u8], k: usize) -> bool
+pub fn are_integers(offsets: &[u64], s: &[u8], k: usize) -> bool
     requires { ⌜ k + 13 ≤ cells (now s) ⌝ }
     ensures { λ r. ⌜ r ≡ areIntegers (length (now (offsets .entry))) (varAt (now (s .entry)) (k + 2)) (operandAt (now (s .entry)) (k + 5)) (operandAt (now (s .entry)) (k + 9)) ⌝ }
 {
@@ -127,7 +126,7 @@ pub fn var_width(s: &[u8], k: usize) -> u64
     element_width(ty.code)
 }
 
-fn value_width(s: &[u8], k: usize) -> u64
+pub fn value_width(s: &[u8], k: usize) -> u64
     requires { ⌜ k + 4 ≤ cells (now s) ⌝ }
     ensures { λ r. ⌜ r ≡ valueWidth (operandAt (now (s .entry)) k) ⌝ }
 {

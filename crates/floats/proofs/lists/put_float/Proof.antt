@@ -1,5 +1,5 @@
 use Rattle.floats.specs.Floats.{operationList}
-use Rattle.integers.proofs.Wrote.{none-wrote}
+use Rattle.integer_lists.proofs.Wrote.{none-wrote}
 use Prim.Native.Nat.{_+_}
 use mathlib.Core.Path.{_≡_, sym, ap, _∙_}
 use native.Mathlib.Omega.{arith}

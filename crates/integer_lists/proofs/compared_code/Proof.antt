@@ -1,0 +1,31 @@
+use Rattle.integers.specs.Integers.{comparedCode}
+use borrow.Author.Tests.{ne-eqb}
+use Rattle.integer_lists.proofs.compared_code.Statement.{statement}
+use Rattle.integer_lists.proofs.compared_code.Tie as tie
+
+returns : tie.Need-returns
+unfolding comparedCode
+returns c = simp (c .match .keys1)
+
+returns-2 : tie.Need-returns-2
+unfolding comparedCode
+returns-2 c = simp (c .match .keys2)
+
+returns-3 : tie.Need-returns-3
+unfolding comparedCode
+returns-3 c = simp (c .match .keys3)
+
+returns-4 : tie.Need-returns-4
+unfolding comparedCode
+returns-4 c = simp (c .match .keys4)
+
+returns-5 : tie.Need-returns-5
+unfolding comparedCode
+returns-5 c = simp (c .match .keys5)
+
+returns-6 : tie.Need-returns-6
+unfolding comparedCode
+returns-6 c = simp (ne-eqb _ _ (c .match .rest .0 .0 .0 .0 .1), ne-eqb _ _ (c .match .rest .0 .0 .0 .1), ne-eqb _ _ (c .match .rest .0 .0 .1), ne-eqb _ _ (c .match .rest .0 .1), ne-eqb _ _ (c .match .rest .1))
+
+pub compared-code-spec : {M : Type 1} → statement M
+compared-code-spec = tie.close (tie.spec returns returns-2 returns-3 returns-4 returns-5 returns-6)

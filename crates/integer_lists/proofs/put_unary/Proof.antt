@@ -1,0 +1,73 @@
+use Prim.Native.Nat.{_+_}
+use Rattle.integer_lists.proofs.Wrote.{three-records, load-is}
+use Rattle.integers.proofs.Forms.{unary-cells}
+use Rattle.integers.specs.Integers.{destVar, leftOp, unaryList}
+use Rattle.ir.specs.Function.{unaryOp}
+use Rattle.ir.specs.Types.{elfSize}
+use Rattle.cells.specs.Cells.{cellAt}
+use mathlib.Core.Path.{_∙_}
+use native.Mathlib.Omega.{arith}
+use borrow.Author.Needs.{needs}
+use Rattle.integer_lists.proofs.put_unary.Statement.{statement}
+use Rattle.integer_lists.proofs.put_unary.Tie as tie
+
+add-bytes-at : tie.Need-add-bytes-at
+add-bytes-at c = search needs
+
+bytes-at-requires : tie.Need-bytes-at-requires
+bytes-at-requires c κs = search needs
+
+add-load : tie.Need-add-load
+add-load c = search needs
+
+load-requires : tie.Need-load-requires
+load-requires c κs = search needs
+
+add-cell-at : tie.Need-add-cell-at
+add-cell-at c = search needs
+
+cell-at-requires : tie.Need-cell-at-requires
+cell-at-requires c κs = search needs
+
+unary-record-requires : tie.Need-unary-record-requires
+unary-record-requires c κs = search needs
+
+add-store : tie.Need-add-store
+add-store c = search needs
+
+store-requires : tie.Need-store-requires
+store-requires c κs = search needs
+
+put-three-requires : tie.Need-put-three-requires
+unfolding unaryList
+put-three-requires c κs = omega (arith, c .before .before .before .before .before .before .before .before .before .pre .1)
+
+same-length : tie.Need-same-length
+same-length c = search needs
+
+returns : tie.Need-returns
+unfolding unaryList
+returns c =
+    let a = c .before .before .before .before .before .before .before .before .before .before .before .before .args in
+    let size = elfSize (destVar (a .s .now) (a .k) .ty) in
+    three-records (c .before .before .put-three .ensures)
+    (load-is (a .offsets .now) 0 (leftOp (a .s .now) (a .k)) size (c .before .before .before .before .before .before .before .before .bytes-at .ensures) (c .before .before .before .before .before .before .before .load .ensures))
+    (c .before .before .before .before .before .unary-record .ensures ∙ rw (c .before .before .before .before .before .before .cell-at .ensures, c .before .before .before .before .before .before .before .before .bytes-at .ensures) (unary-cells (unaryOp (cellAt (a .s .now) (a .k + 1))) size))
+    (c .before .before .before .store .ensures)
+
+pub put-unary-spec : {M : Type 1} → statement M
+put-unary-spec =
+    tie.close
+    (tie.spec
+    add-bytes-at
+    bytes-at-requires
+    add-load
+    load-requires
+    add-cell-at
+    cell-at-requires
+    unary-record-requires
+    add-store
+    store-requires
+    put-three-requires
+    same-length
+    returns)
