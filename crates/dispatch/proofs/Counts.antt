@@ -14,9 +14,9 @@ use Rattle.ir.specs.Types.{Result, ok, refused, isFloat}
 use Rattle.ir.specs.Function.{instrAt, operandsAt, argumentsAt, behind}
 use Rattle.layout.specs.declared.Checked.{Checked}
 use Rattle.layout.specs.Layout.{cursor, instrCheck}
-use Rattle.layout.specs.Laid.{isLaid}
+use Rattle.laid.specs.Laid.{isLaid}
 use Rattle.layout.proofs.Laws.{instr-right}
-use Rattle.layout.proofs.Short.{laid-right}
+use Rattle.laid.proofs.Short.{laid-right}
 use Rattle.x86.specs.declared.enums.Instruction.{Instruction}
 use Rattle.x86.specs.Records.{listBytes}
 use Rattle.utils.specs.Answers.{lent, counted}

@@ -12,7 +12,7 @@ use Rattle.ir.specs.Types.{elementWidth, bytes, offsetBehind, lastOffset}
 use Rattle.ir.specs.Function.{typeAt, typesAt}
 use Rattle.layout.specs.declared.Checked.{Checked}
 use Rattle.layout.specs.Layout.{typeCheck, typesCheck}
-use Rattle.layout.specs.Laid.{accepts}
+use Rattle.laid.specs.Laid.{accepts}
 use Rattle.layout.proofs.Passed.{apart}
 use Rattle.layout.proofs.Laws.{type-right}
 use Rattle.layout.proofs.Turns.{Left, goes-on, stops, ends, types-on, types-over}

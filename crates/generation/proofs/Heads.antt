@@ -13,7 +13,7 @@ use Rattle.ir.specs.Types.{lastOffset}
 use Rattle.ir.specs.Function.{typesAt, bodyFrom}
 use Rattle.layout.specs.declared.Limited.{Limited}
 use Rattle.layout.specs.declared.Checked.{Checked}
-use Rattle.layout.specs.Laid.{accepts}
+use Rattle.laid.specs.Laid.{accepts}
 use Rattle.layout.specs.Layout.{bindLimited, bindChecked, cursor, endCheck, limited, returnCheck, typesCheck, varsCheck, instrsCheck, listsCheck, restCheck, sheetCheck}
 use Rattle.codegen.specs.Frame.{offsetsFrom}
 use Rattle.frame.specs.declared.Typed.{Typed}

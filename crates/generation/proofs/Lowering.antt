@@ -11,7 +11,7 @@ use Rattle.cells.specs.Cells.{cellAt, write}
 use Rattle.cells.specs.declared.Cursor.{Cursor}
 use Rattle.layout.specs.declared.Checked.{Checked}
 use Rattle.layout.specs.declared.Limited.{Limited}
-use Rattle.layout.specs.Laid.{accepts}
+use Rattle.laid.specs.Laid.{accepts}
 use Rattle.layout.proofs.Passed.{apart}
 use Rattle.layout.specs.Layout.{bindLimited, bindChecked, tablesCheck, sheetCheck, instrsCheck, endCheck}
 use Rattle.ir.specs.declared.«Type».{«Type» as IrType}

@@ -11,7 +11,7 @@ use Rattle.ir.specs.Function.{typesAt}
 use Rattle.cells.specs.declared.Cursor.{Cursor}
 use Rattle.layout.specs.declared.Checked.{Checked}
 use Rattle.layout.specs.declared.Limited.{Limited}
-use Rattle.layout.specs.Laid.{accepts}
+use Rattle.laid.specs.Laid.{accepts}
 use Rattle.layout.specs.Layout.{tablesCheck}
 use Rattle.x86.specs.declared.enums.Instruction.{Instruction}
 use Rattle.codegen.specs.Frame.{offsetsFrom}

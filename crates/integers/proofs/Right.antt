@@ -12,9 +12,9 @@ use Rattle.ir.specs.Types.{noArray}
 use Rattle.ir.specs.declared.Operand.{Operand as IrOp}
 use Rattle.ir.specs.Function.{varAt, operandAt, varOperand, intOperand, floatOperand, boolOperand, addressOperand, dataOperand}
 use Rattle.layout.specs.Layout.{cursor, fieldsCheck, zerosCheck, varCheck, operandCheck, firstField, flagField, operationMost, destCheck, sideCheck}
-use Rattle.layout.specs.Laid.{accepts, isLaid}
+use Rattle.laid.specs.Laid.{accepts, isLaid}
 use Rattle.layout.proofs.Passed.{apart}
-use Rattle.layout.proofs.Short.{type-laid, var-laid, operand-laid, moved-laid, other-laid}
+use Rattle.laid.proofs.Short.{type-laid, var-laid, operand-laid, moved-laid, other-laid}
 use Rattle.integers.proofs.Quick.{first, second}
 use Rattle.integers.specs.Integers.{destVar, leftOp, rightOp, isInteger, isIntegerVar, isIntegerOperand, areMoved, areIntegers}
 

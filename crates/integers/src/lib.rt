@@ -1,7 +1,7 @@
 // The short way for instructions on integer variables and constants, which are most of a rule: the number of their records, and the records, found on the
 // sheet's cells. Any other instruction is left to the list makers, and so is one that they refuse.
 pub mod cellwise;
-pub mod laid;
+pub mod counts;
 
 use cells::cell_at;
 use ir::read::type_at;

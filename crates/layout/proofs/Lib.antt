@@ -1,4 +1,3 @@
 pub mod Laws
 pub mod Passed
-pub mod Short
 pub mod Turns

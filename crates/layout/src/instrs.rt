@@ -1,7 +1,6 @@
 // Instructions: position in Krc's `Instr`, operation, dest (3), left (4), right (4); a call's arguments follow.
 use crate::Checked;
 use crate::Limited;
-use crate::laid::is_laid;
 use crate::parts::LARGEST;
 use crate::parts::limited;
 use crate::parts::operand_check;
@@ -11,10 +10,10 @@ use crate::parts::zeros_check;
 use cells::Cell;
 use cells::Cursor;
 ghost use mathlib.Core.Path.{_≡_};
-ghost use Rattle.layout.specs.Layout.{operationMost, hasDest, hasLeft, destCheck, sideCheck, callCheck, bodyCheck, instrCheck, instrsCheck};
+ghost use Rattle.layout.specs.Layout.{operationMost, hasDest, hasLeft, destCheck, sideCheck, callCheck, bodyCheck, instrCheck};
 
 // The largest operation of a kind.
-pub(crate) fn operation_most(kind: u64) -> u64
+pub fn operation_most(kind: u64) -> u64
     ensures { λ r. ⌜ r ≡ operationMost kind ⌝ }
 {
     match kind {
@@ -27,7 +26,7 @@ pub(crate) fn operation_most(kind: u64) -> u64
 }
 
 // The first five kinds have a dest, and a call whose operation is 1.
-pub(crate) fn has_dest(kind: u64, operation: u64) -> bool
+pub fn has_dest(kind: u64, operation: u64) -> bool
     ensures { λ r. ⌜ r ≡ hasDest kind operation ⌝ }
 {
     if kind < 5 {
@@ -37,7 +36,7 @@ pub(crate) fn has_dest(kind: u64, operation: u64) -> bool
 }
 
 // One-operand kinds use left, and a Binary.
-pub(crate) fn has_left(kind: u64) -> bool
+pub fn has_left(kind: u64) -> bool
     ensures { λ r. ⌜ r ≡ hasLeft kind ⌝ }
 {
     if kind < 4 {
@@ -114,27 +113,4 @@ pub fn instr_check(s: &[u8], c: Cursor) -> Checked
         },
         Cell::Wrong(k) => Checked::Refused(2, k),
     }
-}
-
-pub fn instrs_check(s: &[u8], n: u64, c: Cursor) -> Checked
-    ensures { λ r. ⌜ r ≡ instrsCheck (now (s .entry)) n c ⌝ }
-{
-    let mut left = n;
-    let mut here = c;
-    while 0 < left {
-        if is_laid(s, here.at) {
-            here = Cursor { at: here.at + 13 };
-        } else {
-            match instr_check(s, here) {
-                Checked::Behind(next) => {
-                    here = next;
-                }
-                Checked::Refused(number, k) => {
-                    return Checked::Refused(number, k);
-                }
-            }
-        }
-        left -= 1;
-    }
-    Checked::Behind(here)
 }

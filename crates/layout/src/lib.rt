@@ -1,7 +1,5 @@
-// The layout of tables and sheet: the first wrong cell in reading order, with refusal 1, 2 or 3. What the short way over its cells leaves, a call or a
-// wrong part, is read again from its start.
+// The layout of tables and sheet: the first wrong cell in reading order, with refusal 1, 2 or 3.
 pub mod instrs;
-pub mod laid;
 pub mod parts;
 pub mod tables;
 

@@ -1,12 +1,11 @@
 // Cells, types, variables and operands of a sheet.
 use crate::Checked;
 use crate::Limited;
-use crate::laid::next_var;
 use cells::Cell;
 use cells::Cursor;
 use ir::Type;
 ghost use mathlib.Core.Path.{_≡_};
-ghost use Rattle.layout.specs.Layout.{endCheck, limited, countCheck, zerosCheck, fieldsCheck, typeCheck, returnCheck, varCheck, firstField, flagField, operandCheck, operandsCheck, varsCheck};
+ghost use Rattle.layout.specs.Layout.{endCheck, limited, countCheck, zerosCheck, fieldsCheck, typeCheck, returnCheck, varCheck, firstField, flagField, operandCheck, operandsCheck};
 
 // The largest number that is not negative.
 pub const LARGEST: u64 = 0x7fff_ffff_ffff_ffff;
@@ -141,7 +140,7 @@ pub fn var_check(s: &[u8], c: Cursor) -> Checked
 }
 
 // The bounds of an operand's fields, by its position in Krc's `Operand`.
-pub(crate) fn first_field(kind: u64) -> u64
+pub fn first_field(kind: u64) -> u64
     ensures { λ r. ⌜ r ≡ firstField kind ⌝ }
 {
     match kind {
@@ -182,25 +181,6 @@ pub fn operands_check(s: &[u8], n: u64, c: Cursor) -> Checked
     let mut here = c;
     while 0 < left {
         match operand_check(s, here) {
-            Checked::Behind(next) => {
-                here = next;
-            }
-            Checked::Refused(number, k) => {
-                return Checked::Refused(number, k);
-            }
-        }
-        left -= 1;
-    }
-    Checked::Behind(here)
-}
-
-pub fn vars_check(s: &[u8], n: u64, c: Cursor) -> Checked
-    ensures { λ r. ⌜ r ≡ varsCheck (now (s .entry)) n c ⌝ }
-{
-    let mut left = n;
-    let mut here = c;
-    while 0 < left {
-        match next_var(s, here) {
             Checked::Behind(next) => {
                 here = next;
             }

@@ -2,7 +2,7 @@ use mathlib.Core.Path.{sym, ap, _∙_}
 use Prim.Native.Nat.{_+_}
 use Rattle.ir.specs.Types.{ok}
 use Rattle.ir.specs.Function.{instrAt, operandsAt, argumentsAt}
-use Rattle.layout.specs.Laid.{isLaid}
+use Rattle.laid.specs.Laid.{isLaid}
 use Rattle.integers.proofs.Quick.{quick-counted}
 use Rattle.utils.specs.Answers.{lent}
 use Rattle.dispatch.specs.Dispatch.{lineMade}

@@ -4,7 +4,7 @@ use Prim.Native.Nat.{_+_}
 use Rattle.ir.specs.Types.{ok}
 use Rattle.ir.specs.Function.{instrAt, operandsAt, argumentsAt}
 use Rattle.layout.specs.Layout.{cursor}
-use Rattle.layout.proofs.Short.{laid-right}
+use Rattle.laid.proofs.Short.{laid-right}
 use Rattle.floats.proofs.Made.{float-counted}
 use Rattle.utils.specs.Answers.{lent}
 use Rattle.dispatch.specs.Dispatch.{lineMade}

@@ -1,6 +1,6 @@
 use mathlib.Core.Path.{sym, ap, _∙_}
 use Rattle.cells.specs.Cells.{cellAt}
-use Rattle.layout.specs.Laid.{accepts}
+use Rattle.laid.specs.Laid.{accepts}
 use Rattle.frame.specs.Sizes.{sizesAt}
 use Rattle.generation.specs.Head.{headCheck}
 use Rattle.generation.proofs.Lowering.{tables-wrong, head-wrong, headed-wrong, opens}

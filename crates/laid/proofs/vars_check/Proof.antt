@@ -1,0 +1,63 @@
+use borrow.Author.Needs.{needs}
+use native.Mathlib.Omega.{arith}
+use mathlib.Core.Path.{refl}
+use Rattle.layout.specs.Layout.{varsCheck}
+use Rattle.layout.proofs.Turns.{Left, goes-on, stops, ends}
+use Rattle.laid.proofs.vars_check.Statement.{statement}
+use Rattle.laid.proofs.vars_check.Tie as tie
+
+abbrev Inv-loop : tie.InvT-loop
+Inv-loop s n left₀ here₀ left here = Left (varsCheck s) (varsCheck s n here₀) left here
+
+abbrev μ-loop : tie.MeasureT-loop
+μ-loop s n left₀ here₀ left here = left
+
+loop-holds : tie.Need-loop-holds Inv-loop μ-loop
+loop-holds c = record { is = refl }
+
+next-var-requires : tie.Need-next-var-requires Inv-loop μ-loop
+next-var-requires c κs = search needs
+
+enum-known-next : tie.Need-enum-known-next Inv-loop μ-loop
+enum-known-next c = search needs
+
+enum-known-number : tie.Need-enum-known-number Inv-loop μ-loop
+enum-known-number c = search needs
+
+returns : tie.Need-returns Inv-loop μ-loop
+unfolding varsCheck
+returns c =
+    let p = c .before .before .before in
+    stops _ _ (p .before .before .loop .inv) (p .before .loop-test .taken) (λ m. simp (← p .next-var .ensures, c .before .number .given .1))
+
+sub-left : tie.Need-sub-left Inv-loop μ-loop
+sub-left c = omega arith
+
+loop-less : tie.Need-loop-less Inv-loop μ-loop
+loop-less c = omega arith
+
+loop-again : tie.Need-loop-again Inv-loop μ-loop
+unfolding varsCheck
+loop-again c =
+    let p = c .before .before .before in
+    goes-on _ _ (p .before .before .loop .inv) _ (p .before .loop-test .taken) (λ m. simp (← p .next-var .ensures, c .before .next .given .1))
+
+returns-2 : tie.Need-returns-2 Inv-loop μ-loop
+unfolding varsCheck
+returns-2 c = ends _ _ (c .before .loop .inv) (c .loop-test .left) refl
+
+pub vars-check-spec : {M : Type 1} → statement M
+vars-check-spec =
+    tie.close
+    (tie.spec
+    Inv-loop
+    μ-loop
+    loop-holds
+    next-var-requires
+    enum-known-next
+    enum-known-number
+    returns
+    sub-left
+    loop-less
+    loop-again
+    returns-2)
