@@ -28,7 +28,8 @@ use Rattle.records.specs.Records.{bytesOfRecords}
 use Rattle.layout.proofs.Passed.{apart}
 use Rattle.integers.specs.Integers.{slotOf, loadCells}
 use Rattle.integers.proofs.Forms.{load-record, short-bytes}
-use Rattle.calls.specs.Calls.{storeVar, isQuick, quickLoad, loadedCells, isPlain, plainStore}
+use Rattle.integers.proofs.Quick as quick
+use Rattle.calls.specs.Calls.{storeVar, isQuick, quickLoad, loadedCells, isSized, sizedStore}
 
 -- ---- what the `_` of a match on an operand's kind leaves
 
@@ -134,14 +135,6 @@ quick-argument ctx regs k x q h = rw (h) (quick-loaded ctx (getD regs k RAX) x q
 
 -- ---- the store of a result
 
-both-first : (a b : Bool) → (a && b) ≡ true → a ≡ true
-both-first true b h = refl
-both-first false b h = apart (sym h)
-
-both-second : (a b : Bool) → (a && b) ≡ true → b ≡ true
-both-second true b h = h
-both-second false b h = apart (sym h)
-
 record Wide (code : ℕ) : Type 0 where
   pub some : eqb (elementWidth code) 0 ≡ false
   pub size : sizeFrom (elementWidth code) ≡ ok (elementSize (elementWidth code))
@@ -162,48 +155,48 @@ has-width (suc (suc (suc (suc (suc (suc (suc (suc (suc zero))))))))) a b = recor
 has-width (suc (suc (suc (suc (suc (suc (suc (suc (suc (suc zero)))))))))) a b = record { some = refl; size = refl }
 has-width (suc (suc (suc (suc (suc (suc (suc (suc (suc (suc (suc n))))))))))) a b = apart (sym b ∙ le-ltb (suc (suc (suc (suc (suc (suc (suc (suc (suc (suc (suc n))))))))))) 11 (omega arith))
 
-module _ (n : ℕ) (v : VarId) (h : isPlain n v ≡ true) where
+module _ (n : ℕ) (v : VarId) (h : isSized n v ≡ true) where
   has-slot : ltb (v .id) n ≡ true
-  unfolding isPlain
-  has-slot = both-first (ltb (v .id) n) _ h
+  unfolding isSized
+  has-slot = quick.first (ltb (v .id) n) _ h
 
-  type-plain : (isScalar (v .ty) && (ltb 0 (v .ty .code) && ltb (v .ty .code) 11)) ≡ true
-  unfolding isPlain
-  type-plain = both-second (ltb (v .id) n) _ h
+  type-sized : (isScalar (v .ty) && (ltb 0 (v .ty .code) && ltb (v .ty .code) 11)) ≡ true
+  unfolding isSized
+  type-sized = quick.second (ltb (v .id) n) _ h
 
   no-array : isScalar (v .ty) ≡ true
-  no-array = both-first (isScalar (v .ty)) _ type-plain
+  no-array = quick.first (isScalar (v .ty)) _ type-sized
 
   wide : Wide (v .ty .code)
   wide =
-      let c = both-second (isScalar (v .ty)) _ type-plain in
-      has-width (v .ty .code) (both-first (ltb 0 (v .ty .code)) _ c) (both-second (ltb 0 (v .ty .code)) _ c)
+      let c = quick.second (isScalar (v .ty)) _ type-sized in
+      has-width (v .ty .code) (quick.first (ltb 0 (v .ty .code)) _ c) (quick.second (ltb 0 (v .ty .code)) _ c)
 
-  plain-sized : varSize v ≡ ok (elfSize (v .ty))
+  sized-sized : varSize v ≡ ok (elfSize (v .ty))
   unfolding varSize typeSize bytes elfSize
-  plain-sized = rw (wide .some, no-array) (wide .size)
+  sized-sized = rw (wide .some, no-array) (wide .size)
 
 -- no look-up refuses it
-pub plain-stored : (ctx : Context) (v : VarId) → isPlain (length (ctx .offsets)) v ≡ true → storeVar ctx v ≡ ok (plainStore (ctx .offsets) v)
-unfolding storeVar plainStore convertVar displacement slotOf
-plain-stored ctx v h = rw (has-slot _ v h, plain-sized _ v h)
+pub sized-stored : (ctx : Context) (v : VarId) → isSized (length (ctx .offsets)) v ≡ true → storeVar ctx v ≡ ok (sizedStore (ctx .offsets) v)
+unfolding storeVar sizedStore convertVar displacement slotOf
+sized-stored ctx v h = rw (has-slot _ v h, sized-sized _ v h)
 
--- the tests of `is_plain`
-pub plain-code : (n : ℕ) (v : VarId) → ltb (v .id) n ≡ true → isScalar (v .ty) ≡ true → ltb 0 (v .ty .code) ≡ true → ltb (v .ty .code) 11 ≡ isPlain n v
-unfolding isPlain
-plain-code n v h e f = rw (h, e, f)
+-- the tests of `is_sized`
+pub sized-code : (n : ℕ) (v : VarId) → ltb (v .id) n ≡ true → isScalar (v .ty) ≡ true → ltb 0 (v .ty .code) ≡ true → ltb (v .ty .code) 11 ≡ isSized n v
+unfolding isSized
+sized-code n v h e f = rw (h, e, f)
 
-pub plain-no-code : (n : ℕ) (v : VarId) → ltb (v .id) n ≡ true → isScalar (v .ty) ≡ true → ltb 0 (v .ty .code) ≡ false → false ≡ isPlain n v
-unfolding isPlain
-plain-no-code n v h e f = rw (h, e, f)
+pub sized-no-code : (n : ℕ) (v : VarId) → ltb (v .id) n ≡ true → isScalar (v .ty) ≡ true → ltb 0 (v .ty .code) ≡ false → false ≡ isSized n v
+unfolding isSized
+sized-no-code n v h e f = rw (h, e, f)
 
-pub plain-array : (n : ℕ) (v : VarId) → ltb (v .id) n ≡ true → isScalar (v .ty) ≡ false → false ≡ isPlain n v
-unfolding isPlain
-plain-array n v h e = rw (h, e)
+pub sized-array : (n : ℕ) (v : VarId) → ltb (v .id) n ≡ true → isScalar (v .ty) ≡ false → false ≡ isSized n v
+unfolding isSized
+sized-array n v h e = rw (h, e)
 
-pub plain-no-slot : (n : ℕ) (v : VarId) → ltb (v .id) n ≡ false → false ≡ isPlain n v
-unfolding isPlain
-plain-no-slot n v h = rw (h)
+pub sized-no-slot : (n : ℕ) (v : VarId) → ltb (v .id) n ≡ false → false ≡ isSized n v
+unfolding isSized
+sized-no-slot n v h = rw (h)
 
 -- ---- records written where there is room
 

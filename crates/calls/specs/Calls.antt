@@ -71,11 +71,11 @@ unfoldable pub loadedCells : Register → ℕ → ℕ → ℕ → Record
 loadedCells reg tag value n = cond (isXmm reg) (cellsRecord 0 11 1 (number reg) tag value n 0) (loadCells (number reg) tag value n)
 
 -- a variable that is no array, with a slot among n, of a type with a width
-unfoldable pub isPlain : ℕ → VarId → Bool
-isPlain n v = ltb (v .id) n && (isScalar (v .ty) && (ltb 0 (v .ty .code) && ltb (v .ty .code) 11))
+unfoldable pub isSized : ℕ → VarId → Bool
+isSized n v = ltb (v .id) n && (isScalar (v .ty) && (ltb 0 (v .ty .code) && ltb (v .ty .code) 11))
 
 -- the store of a result into it
-unfoldable pub plainStore : List ℕ → VarId → Instruction
-plainStore offsets v =
+unfoldable pub sizedStore : List ℕ → VarId → Instruction
+sizedStore offsets v =
     cond (isFloat (v .ty)) (Instruction.Binary BinOp.StoreF (slotOf offsets v) (Operand.Reg (xmm 0)) (elfSize (v .ty)))
     (move (slotOf offsets v) (Operand.Reg RAX) (elfSize (v .ty)))

@@ -2,8 +2,8 @@
 mod quick;
 
 use crate::quick::is_floating;
-use crate::quick::is_plain;
 use crate::quick::is_quick;
+use crate::quick::is_sized;
 use crate::quick::put_dropped;
 use crate::quick::put_kept;
 use crate::quick::put_load;
@@ -217,7 +217,7 @@ fn store_result(tables: &[u8], offsets: &[u64], v: VarId, symbol: u64) -> Record
     }
 }
 
-// The call, and the store of its result, if it is kept: without a list where its variable is plain.
+// The call, and the store of its result, if it is kept: without a list where no look-up refuses its variable.
 fn put_call(
     tables: &[u8],
     offsets: &[u64],
@@ -233,7 +233,7 @@ fn put_call(
         put_dropped(symbol, out, at);
         return Made::Records(1);
     };
-    if is_plain(offsets, v) {
+    if is_sized(offsets, v) {
         put_kept(offsets, v, symbol, out, at);
         return Made::Records(2);
     }

@@ -27,7 +27,7 @@ ghost use Rattle.x86.specs.Says.{recordSays};
 ghost use Rattle.codegen.specs.Instructions.{floating};
 ghost use Rattle.codegen.specs.Frame.{registersOf};
 ghost use Rattle.utils.specs.Answers.{lent, emitted};
-ghost use Rattle.calls.specs.Calls.{callOf, isQuick, quickLoad, loadedCells, isPlain, plainStore};
+ghost use Rattle.calls.specs.Calls.{callOf, isQuick, quickLoad, loadedCells, isSized, sizedStore};
 
 // Whether the argument at cell `k` goes into an XMM register.
 pub fn is_floating(s: &[u8], k: usize) -> bool
@@ -132,8 +132,8 @@ pub fn put_load(
 }
 
 // Whether a variable has a slot and is no array, of a type with a width.
-pub fn is_plain(offsets: &[u64], v: VarId) -> bool
-    ensures { λ r. ⌜ r ≡ isPlain (length (now (offsets .entry))) v ⌝ }
+pub fn is_sized(offsets: &[u64], v: VarId) -> bool
+    ensures { λ r. ⌜ r ≡ isSized (length (now (offsets .entry))) v ⌝ }
 {
     let ty = v.ty;
     if v.id < offsets.len() as u64 {
@@ -178,7 +178,7 @@ fn stored_cells(operation: u64, slot: u64, reg: u64, size: u64) -> Record
 
 // XMM0 or RAX into the slot of such a variable.
 fn store_record(offsets: &[u64], v: VarId) -> Record
-    ensures { λ r. ⌜ recordSays r ≡ recordOf (plainStore (now (offsets .entry)) v) ⌝ }
+    ensures { λ r. ⌜ recordSays r ≡ recordOf (sizedStore (now (offsets .entry)) v) ⌝ }
 {
     let ty = v.ty;
     let bytes = type_bytes(ty);
@@ -190,7 +190,7 @@ fn store_record(offsets: &[u64], v: VarId) -> Record
 
 // The call, and the store of its result into such a variable, if the slice has room for both.
 pub fn put_kept(offsets: &[u64], v: VarId, symbol: u64, out: &mut [u8], at: usize)
-    ensures { λ _. ⌜ now (out .exit) ≡ emitted at (callOf symbol ∷ plainStore (now (offsets .entry)) v ∷ []) (now (out .entry)) ⌝ }
+    ensures { λ _. ⌜ now (out .exit) ≡ emitted at (callOf symbol ∷ sizedStore (now (offsets .entry)) v ∷ []) (now (out .entry)) ⌝ }
 {
     if 2 <= room(out.len(), at) {
         put_two(out, at, call_record(symbol), store_record(offsets, v));

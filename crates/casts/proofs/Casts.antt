@@ -23,6 +23,7 @@ use Rattle.codegen.specs.Utils.{sizeFrom, varSize, convertVar}
 use Rattle.codegen.specs.Instructions.{Kind, Source, move, castOperand, widened, converted, extended, castBetween}
 use Rattle.codegen.proofs.Shapes.{source-brief}
 use Rattle.records.specs.Records.{recordsOf, encoded}
+use Rattle.records.proofs.Written.{list-length}
 use Rattle.casts.specs.Casts.{Brought, brought, broughtOf, broughtAll, widenedRecords, convertedRecords, extendedRecords, toFloat, toInteger, betweenRecords, castRecords}
 
 -- ---- how many of two records
@@ -51,11 +52,6 @@ unfolding recordsOf
 recordsOf-append [] b = refl
 recordsOf-append (i ∷ a) b = ap (λ (x : List Record). recordOf i ∷ x) (recordsOf-append a b)
 
-recordsOf-length : (is : List Instruction) → length (recordsOf is) ≡ length is
-unfolding recordsOf
-recordsOf-length [] = refl
-recordsOf-length (i ∷ is) = ap suc (recordsOf-length is)
-
 -- a source has at most one record
 pub few : (ctx : Context) (op : IrOp) (n k : ℕ) (a b : Record) {x : Operand} {m : ℕ} → broughtAll (castOperand ctx op n) ≡ ok (brought (take k (a ∷ b ∷ [])) x m) → k ≤ 1
 few ctx op n k a b {x} {m} e = go (castOperand ctx op n) refl
@@ -66,7 +62,7 @@ few ctx op n k a b {x} {m} e = go (castOperand ctx op n) refl
         let g : ok (broughtOf s) ≡ ok (brought (take k (a ∷ b ∷ [])) x m) = sym (ap broughtAll f) ∙ e in
         let q : broughtOf s ≡ brought (take k (a ∷ b ∷ [])) x m = let z = g in cc in
         let l : recordsOf (s .records) ≡ take k (a ∷ b ∷ []) = ap (λ (v : Brought). v .records) q in
-        at-most-one k a b (omega (arith, recordsOf-length (s .records), ap length l))
+        at-most-one k a b (omega (arith, list-length (s .records), ap length l))
     go (refused q) f =
         let g : refused q ≡ ok (brought (take k (a ∷ b ∷ [])) x m) = sym (ap broughtAll f) ∙ e in
         let z : _≡_ {A = ℕ} 0 1 = cc in omega arith

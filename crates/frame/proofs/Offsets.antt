@@ -106,12 +106,12 @@ module _ (s : List ℕ) (n : ℕ) (c : Cursor) where
       -- the next type is wrong
       pub turn-wrong : {number cell : ℕ} → typeCheck s here ≡ Checked.Refused number cell → Answered (Typed.Wrong number cell) os
       unfolding typesCheck
-      turn-wrong e = wrong os (stops rest whole (f .layout) h (λ m. rw e refl))
+      turn-wrong e = wrong os (stops rest whole (f .layout) h (rw e refl))
 
       module _ {next : Cursor} {b : ℕ} (right : typeCheck s here ≡ Checked.Behind next) (is : b ≡ bytes (typeAt s (here .at))) where
         -- it passes the limit
         pub turn-over : 1048576 < end + b → Answered (Typed.Wrong 3 (here .at + 1)) os
-        turn-over l = wrong os (stops rest whole (f .layout) h (λ m. types-over s end here next b m right is l))
+        turn-over l = wrong os (stops rest whole (f .layout) h (types-over s end here next b _ right is l))
 
         pub turn-on : end + b ≤ 1048576 → n ≤ length os →
             Offsetting (left - 1) (k + 1) (end + b) (widths && not (eqb (elementWidth (typeAt s (here .at) .code)) 0)) next (set os k (end + b))
@@ -121,7 +121,7 @@ module _ (s : List ℕ) (n : ℕ) (c : Cursor) where
             record {
               sum = omega (arith, f .sum, h);
               small = l;
-              layout = goes-on rest whole (f .layout) (end + b, next) h (λ m. types-on s end here next b m right is l);
+              layout = goes-on rest whole (f .layout) (end + b, next) h (types-on s end here next b _ right is l);
               filled = rw (← m) (one-more (subst (λ (ts : List IrType). Filled (typesAt s n (c .at)) ts k end widths os) more (f .filled)) is (omega (arith, f .sum, h, long)));
             }
 

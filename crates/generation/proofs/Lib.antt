@@ -1,5 +1,4 @@
 pub mod Heads
-pub mod Walk
 pub mod Running
 pub mod Listing
 pub mod Lowering

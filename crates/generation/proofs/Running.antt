@@ -37,10 +37,12 @@ use Rattle.dispatch.specs.Dispatch.{Takes, lineOf}
 use Rattle.generation.specs.declared.body.Passed.{Passed}
 use Rattle.generation.specs.declared.body.Surveyed.{Surveyed}
 use Rattle.generation.specs.Head.{headCheck}
-use Rattle.generation.specs.Pass.{Laid, bodyOf}
+use Rattle.layout.specs.Layout.{Laid}
+use Rattle.generation.specs.Pass.{bodyOf}
 use Rattle.generation.specs.Survey.{Accepts, passedOf, surveyOf}
 use Rattle.generation.proofs.Heads.{head-few, head-starts}
-use Rattle.generation.proofs.Walk.{Walk, has-few, walk-from, walk-next, lines-more}
+use Rattle.layout.proofs.Walk.{Walk, has-few, walk-from, walk-next}
+use Rattle.ir.proofs.Sheet.{lines-more}
 
 -- ---- records before those of an outcome
 

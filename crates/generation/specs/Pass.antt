@@ -1,23 +1,14 @@
 -- The list of a function (Krc's `generate`, codegen/generation.rs), part by part.
 use Prim.Native.Nat.{ℕ}
-use mathlib.Core.Path.{_≡_}
 use mathlib.Core.List.{List, [], _++_}
 use mathlib.Core.Bool.{Bool, true, false}
 use Rattle.cells.specs.Cells.{cellAt}
-use Rattle.cells.specs.declared.Cursor.{Cursor}
 use Rattle.ir.specs.Function.{typeAt, varsAt, linesAt, paramsFrom, bodyFrom}
-use Rattle.layout.specs.declared.Checked.{Checked}
-use Rattle.layout.specs.Layout.{sheetCheck}
 use Rattle.x86.specs.declared.enums.Instruction.{Instruction}
 use Rattle.codegen.specs.Instructions.{funcEpilogue}
 use Rattle.codegen.specs.Frame.{funcPrologue}
 use Rattle.codegen.specs.Generation.{Outcome, accepted, _>>=_, at, generateBody, withEpilogue}
 use Rattle.utils.specs.Answers.{lent}
-
--- the layout of a sheet is right
-pub record Laid (s : List ℕ) : Type 0 where
-  pub end : Cursor
-  pub is : sheetCheck s ≡ Checked.Behind end
 
 -- the body's records, with the offsets that are lent
 unfoldable pub bodyOf : List ℕ → List ℕ → List ℕ → Outcome (List Instruction)

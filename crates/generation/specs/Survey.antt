@@ -24,7 +24,8 @@ use Rattle.generation.specs.declared.body.Passed.{Passed}
 use Rattle.generation.specs.declared.pass.Opened.{Opened}
 use Rattle.generation.specs.declared.pass.Ready.{Ready}
 use Rattle.generation.specs.Head.{headCheck}
-use Rattle.generation.specs.Pass.{Laid, ending, listOf}
+use Rattle.layout.specs.Layout.{Laid}
+use Rattle.generation.specs.Pass.{ending, listOf}
 
 -- ---- the body
 

@@ -4,6 +4,8 @@ use cells::cell_at;
 use dispatch::Line;
 use dispatch::count_line;
 use dispatch::put_line;
+use ir::read::behind;
+use ir::read::body_from;
 use ir::read::type_at;
 use laid::instrs_check;
 use layout::Checked;
@@ -14,14 +16,14 @@ ghost use mathlib.Core.Bool.{cond};
 ghost use lib.Dec.{ltb, eqb};
 ghost use lib.ListN.{length};
 ghost use Rattle.cells.specs.Cells.{cells, cellAt};
-ghost use Rattle.ir.specs.Function.{behind, bodyFrom};
 ghost use Rattle.layout.specs.declared.Limited.{Limited};
 ghost use Rattle.layout.specs.Layout.{instrsCheck};
 ghost use Rattle.x86.specs.declared.enums.Instruction.{Instruction};
 ghost use Rattle.codegen.specs.Generation.{accepted};
 ghost use Rattle.integers.specs.Integers.{Wrote};
 ghost use Rattle.generation.specs.Head.{headCheck};
-ghost use Rattle.generation.specs.Pass.{Laid, bodyOf};
+ghost use Rattle.layout.specs.Layout.{Laid};
+ghost use Rattle.generation.specs.Pass.{bodyOf};
 ghost use Rattle.generation.specs.Survey.{Accepts, passedOf, surveyOf, madeIn};
 
 // How many records the instructions make, and whether the last of them is Ret; or a refusal and the number of its instruction, from 1.
@@ -34,26 +36,6 @@ pub enum Passed {
 pub enum Surveyed {
     Laid(Passed, Cursor),
     Wrong(u64, usize),
-}
-
-// The cell behind an instruction and its arguments.
-fn behind(sheet: &[u8], k: usize) -> usize
-    requires { ⌜ behind (now sheet) k ≤ cells (now sheet) ⌝ }
-    ensures { λ r. ⌜ r ≡ behind (now (sheet .entry)) k ⌝ }
-{
-    if cell_at(sheet, k) == 5 {
-        k + 13 + 4 * cell_at(sheet, k + 6) as usize
-    } else {
-        k + 13
-    }
-}
-
-// The cell of the first instruction.
-fn body_from(sheet: &[u8]) -> usize
-    requires { ⌜ bodyFrom (now sheet) ≤ cells (now sheet) ⌝ }
-    ensures { λ r. ⌜ r ≡ bodyFrom (now (sheet .entry)) ⌝ }
-{
-    6 + 2 * cell_at(sheet, 0) as usize + 3 * cell_at(sheet, 1) as usize
 }
 
 // Whether the last record is Ret, behind the `n` records of the instruction at cell `k`: those of a Return end in it, and without any the last is as before.

@@ -32,7 +32,8 @@ ghost use Rattle.utils.specs.Answers.{lent};
 ghost use Rattle.frame.specs.Sizes.{sizesAt};
 ghost use Rattle.generation.specs.Answers.{countedOutcome};
 ghost use Rattle.generation.specs.Head.{headCheck};
-ghost use Rattle.generation.specs.Pass.{Laid, listOf, ending};
+ghost use Rattle.layout.specs.Layout.{Laid};
+ghost use Rattle.generation.specs.Pass.{listOf, ending};
 ghost use Rattle.generation.specs.Survey.{Accepts, Opens, OpensIf, LendsIf, madeBy, countedList, sizedThen, readySays};
 
 // The total of the variables' sizes and the cursor of the first instruction, or a refusal with its place.

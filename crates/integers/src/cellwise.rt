@@ -6,6 +6,7 @@ use cells::cell_at;
 use ir::Type;
 use ir::read::type_at;
 use ir::types::element_width;
+use utils::negated;
 use x86::record::Record;
 ghost use mathlib.Core.Path.{_≡_};
 ghost use mathlib.Core.Bool.{false, cond};
@@ -38,16 +39,6 @@ pub fn slot(offsets: &[u64], id: u64) -> u64
         negated(offsets[k])
     } else {
         0
-    }
-}
-
-fn negated(n: u64) -> u64
-    ensures { λ r. ⌜ r ≡ minus n ⌝ }
-{
-    if n == 0 {
-        0
-    } else {
-        0xffff_ffff_ffff_ffff - n + 1
     }
 }
 

@@ -9,7 +9,7 @@ use cells::cell_at;
 ghost use mathlib.Core.Path.{_≡_};
 ghost use Prim.Native.Nat.{_+_, _≤_};
 ghost use Rattle.cells.specs.Cells.{cells};
-ghost use Rattle.ir.specs.Function.{typeAt, varAt, operandAt, unaryOp, destAt, instrAt};
+ghost use Rattle.ir.specs.Function.{typeAt, varAt, operandAt, unaryOp, destAt, instrAt, behind, bodyFrom};
 
 pub fn type_at(s: &[u8], k: usize) -> Type
     requires { ⌜ k + 2 ≤ cells (now s) ⌝ }
@@ -114,4 +114,24 @@ pub fn instr_at(s: &[u8], k: usize) -> Instr
         9 => Instr::Return(operand_at(s, k + 5)),
         _ => Instr::Comment,
     }
+}
+
+// The cell behind an instruction and its arguments.
+pub fn behind(s: &[u8], k: usize) -> usize
+    requires { ⌜ behind (now s) k ≤ cells (now s) ⌝ }
+    ensures { λ r. ⌜ r ≡ behind (now (s .entry)) k ⌝ }
+{
+    if cell_at(s, k) == 5 {
+        k + 13 + 4 * cell_at(s, k + 6) as usize
+    } else {
+        k + 13
+    }
+}
+
+// The cell of the first instruction.
+pub fn body_from(s: &[u8]) -> usize
+    requires { ⌜ bodyFrom (now s) ≤ cells (now s) ⌝ }
+    ensures { λ r. ⌜ r ≡ bodyFrom (now (s .entry)) ⌝ }
+{
+    6 + 2 * cell_at(s, 0) as usize + 3 * cell_at(s, 1) as usize
 }

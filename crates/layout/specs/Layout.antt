@@ -1,5 +1,6 @@
 -- The layout of tables and sheet: which cell is the first wrong one, in reading order (01, "Sheet and tables", "Limits", "The turned-away slip").
 use Prim.Native.Nat.{ℕ, zero, suc, _+_, _*_, _-_, _^_}
+use mathlib.Core.Path.{_≡_}
 use mathlib.Core.List.{List}
 use mathlib.Core.Bool.{Bool, cond, _&&_, _||_}
 use lib.ListN.{length}
@@ -172,3 +173,8 @@ sheetCheck s =
     bindLimited (limited s (cursor 0) 256) (λ vars c1.
     bindLimited (limited s c1 256) (λ params c2.
     bindLimited (limited s c2 256) (λ labels c3. restCheck s vars params c3)))
+
+-- the layout of a sheet is right
+pub record Laid (s : List ℕ) : Type 0 where
+  pub end : Cursor
+  pub is : sheetCheck s ≡ Checked.Behind end

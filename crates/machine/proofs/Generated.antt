@@ -3,11 +3,11 @@ use Prim.Native.Nat.{ℕ, suc, _*_, _<_, _≤_, min}
 use mathlib.Core.Path.{_≡_, refl, sym, subst}
 use mathlib.Core.Bool.{Bool, true, false, cond, not, _&&_}
 use mathlib.Core.List.{List, [], _∷_, _++_}
-use lib.Dec.{eqb, ltb, leb, lit<}
+use lib.Dec.{eqb, ltb, lit<}
 use lib.ListN.{length, getD}
 use native.Mathlib.Nat.{mul-le-mul, min-le-right}
 use native.Mathlib.Omega.{arith}
-use borrow.Author.Tests.{ltb-true, leb-true}
+use borrow.Author.Tests.{ltb-true}
 use Rattle.ir.specs.declared.«Type».{«Type» as IrType}
 use Rattle.ir.specs.declared.VarId.{VarId}
 use Rattle.ir.specs.declared.Operand.{Operand as IrOp}
@@ -38,7 +38,8 @@ use Rattle.codegen.specs.Generation.{generateInstr}
 use Rattle.machine.specs.Word.{W}
 use Rattle.machine.specs.Plain.{every}
 use Rattle.machine.specs.Frames.{slotOf}
-use Rattle.machine.proofs.Tests.{both, every-at, every-or}
+use Rattle.ir.proofs.Rest.{few-bytes}
+use Rattle.machine.proofs.Tests.{both, every-at}
 use Rattle.machine.proofs.Frame.{contextWith, At, var-at}
 use Rattle.codegen.proofs.Results.{Yields, yields, refuses, any, bind, weaken, choose, guard}
 use Rattle.machine.proofs.Run.{All, all-append, all-map}
@@ -74,17 +75,13 @@ SmallInstr Instr.Comment args = Unit {0}
 
 -- ---- sizes
 
-width-le : (code : ℕ) → elementWidth code ≤ 8
-unfolding elementWidth every
-width-le code = leb-true _ 8 (every-or (λ n. leb n 8) (0 ∷ 8 ∷ 8 ∷ 4 ∷ 4 ∷ 8 ∷ 4 ∷ 1 ∷ 1 ∷ 1 ∷ 8 ∷ 0 ∷ 0 ∷ []) code 0 refl refl)
-
 bytes-lt : (ty : IrType) → bytes ty < W
 unfolding bytes
 bytes-lt ty = go (isScalar ty)
   where
     go : (b : Bool) → cond b (elementWidth (ty .code)) (elementWidth (ty .code) * min (ty .count) 1048576) < W
-    go true = omega (arith, width-le (ty .code))
-    go false = omega (arith, mul-le-mul (width-le (ty .code)) (min-le-right (ty .count) 1048576))
+    go true = omega (arith, few-bytes (ty .code))
+    go false = omega (arith, mul-le-mul (few-bytes (ty .code)) (min-le-right (ty .count) 1048576))
 
 -- ---- what a Call's loads are
 

@@ -16,8 +16,10 @@ use Rattle.cells.specs.Cells.{cellAt}
 use Rattle.ir.specs.Function.{Line, instrAt, lineAt, linesAt, behind, bodyFrom, functionOf}
 use Rattle.machine.specs.Steps.{isLabel}
 use Rattle.machine.specs.Plain.{labelCount}
-use Rattle.plain.specs.Parts.{Laid, Counts, Few, oneMore}
-use Rattle.plain.proofs.Walk.{Walk, has-few, walk-from, walk-next, lines-length, lines-more}
+use Rattle.layout.specs.Layout.{Laid}
+use Rattle.plain.specs.Parts.{Counts, Few, oneMore}
+use Rattle.layout.proofs.Walk.{Walk, has-few, walk-from, walk-next}
+use Rattle.ir.proofs.Sheet.{lines-length, lines-more}
 
 pub no-label : (i : Instr) (counts : List ℕ) →
     OneOf (0 ∷ 1 ∷ 2 ∷ 3 ∷ 4 ∷ 5 ∷ 7 ∷ 8 ∷ 9 ∷ 10 ∷ []) (tagOf irInstr.the-type i) → counts ≡ oneMore i counts

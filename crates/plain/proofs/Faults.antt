@@ -1,29 +1,26 @@
 -- The first instruction at fault: those that have been tested are plain.
 use Prim.Native.Nat.{ℕ, suc, _+_, _-_, _≤_, _<_}
 use mathlib.Core.Path.{_≡_, refl, sym, ap, _∙_}
-use mathlib.Core.Bool.{Bool, true, false, _&&_}
+use mathlib.Core.Bool.{true, false}
 use mathlib.Core.List.{List, _∷_}
 use native.Mathlib.Omega.{arith}
 use native.Mathlib.Numerals.{add-one}
 use borrow.Author.Tests.{ltb-true}
 use lib.Dec.{ltb}
 use Rattle.cells.specs.Cells.{cellAt}
-use Rattle.layout.proofs.Passed.{apart}
 use Rattle.ir.specs.Function.{Function, Line, instrAt, lineAt, linesAt, behind, bodyFrom, functionOf}
 use Rattle.machine.specs.Plain.{every, isPlainInstr}
+use Rattle.machine.proofs.Tests.{both}
 use Rattle.plain.specs.declared.Plainness.{Plainness}
-use Rattle.plain.specs.Parts.{Laid, labelOf, areNamed, firstFault}
-use Rattle.plain.proofs.Walk.{Walk, has-few, walk-from, walk-next, lines-more}
-
--- a test and those behind it
-and-true : (a b : Bool) → (a && b) ≡ true → (a ≡ true) × (b ≡ true)
-and-true true b h = (refl, h)
-and-true false b h = apart (sym h)
+use Rattle.layout.specs.Layout.{Laid}
+use Rattle.plain.specs.Parts.{labelOf, areNamed, firstFault}
+use Rattle.layout.proofs.Walk.{Walk, has-few, walk-from, walk-next}
+use Rattle.ir.proofs.Sheet.{lines-more}
 
 named-more : (i : Line) (is : List Line) → areNamed (i ∷ is) ≡ true → (labelOf (i .instr) < 256) × (areNamed is ≡ true)
 unfolding areNamed every
 named-more i is h =
-    let p = and-true (ltb (labelOf (i .instr)) 256) _ h in
+    let p = both (ltb (labelOf (i .instr)) 256) _ h in
     (ltb-true _ _ (p .0), p .1)
 
 module _ (F : Function) (k : ℕ) (i : Line) (is : List Line) where

@@ -9,7 +9,7 @@ use Rattle.cells.specs.Cells.{cellAt}
 use Rattle.ir.specs.Function.{functionOf, typesAt, varsAt, typeAt, paramsFrom}
 use Rattle.machine.specs.Plain.{every, isPlainReturn, areDistinct, isScalarVar, isPlainHead}
 use Rattle.plain.specs.Parts.{hasPlainCode}
-use Rattle.plain.proofs.Sheet.{vars-length}
+use Rattle.ir.proofs.Sheet.{vars-length}
 
 module _ (s : List ℕ) where
   abbrev types : Bool

@@ -5,9 +5,6 @@ use mathlib.Core.Bool.{Bool, true, false, cond, not, _&&_, _||_}
 use mathlib.Core.List.{List, [], _∷_}
 use lib.Dec.{ltb, leb, eqb}
 use lib.ListN.{length, getD, set}
-use Rattle.cells.specs.declared.Cursor.{Cursor}
-use Rattle.layout.specs.declared.Checked.{Checked}
-use Rattle.layout.specs.Layout.{sheetCheck}
 use Rattle.ir.specs.declared.«Type».{«Type» as IrType}
 use Rattle.ir.specs.declared.VarId.{VarId}
 use Rattle.ir.specs.declared.Operand.{Operand}
@@ -90,11 +87,6 @@ oneMore (Instr.Jump l) counts = counts
 oneMore (Instr.JumpIfNot x l) counts = counts
 oneMore (Instr.Return x) counts = counts
 oneMore Instr.Comment counts = counts
-
--- the layout of a sheet is right
-pub record Laid (s : List ℕ) : Type 0 where
-  pub end : Cursor
-  pub is : sheetCheck s ≡ Checked.Behind end
 
 -- the first instruction at fault, where the first is number k
 unfoldable pub firstFault : Function → ℕ → List Line → Plainness

@@ -3,34 +3,15 @@ use crate::Plainness;
 use crate::instrs::is_plain_instr;
 use cells::cell_at;
 use ir::Instr;
+use ir::read::behind;
+use ir::read::body_from;
 use ir::read::instr_at;
 ghost use mathlib.Core.Path.{_≡_};
 ghost use mathlib.Core.Bool.{true};
 ghost use mathlib.Core.List.{[]};
-ghost use Prim.Native.Nat.{_≤_};
-ghost use Rattle.cells.specs.Cells.{cells};
-ghost use Rattle.ir.specs.Function.{functionOf, behind, bodyFrom};
-ghost use Rattle.plain.specs.Parts.{areNamed, Counts, Few, oneMore, Laid, firstFault};
-
-// The cell behind an instruction and its arguments.
-fn behind(sheet: &[u8], k: usize) -> usize
-    requires { ⌜ behind (now sheet) k ≤ cells (now sheet) ⌝ }
-    ensures { λ r. ⌜ r ≡ behind (now (sheet .entry)) k ⌝ }
-{
-    if cell_at(sheet, k) == 5 {
-        k + 13 + 4 * cell_at(sheet, k + 6) as usize
-    } else {
-        k + 13
-    }
-}
-
-// The cell of the first instruction.
-fn body_from(sheet: &[u8]) -> usize
-    requires { ⌜ bodyFrom (now sheet) ≤ cells (now sheet) ⌝ }
-    ensures { λ r. ⌜ r ≡ bodyFrom (now (sheet .entry)) ⌝ }
-{
-    6 + 2 * cell_at(sheet, 0) as usize + 3 * cell_at(sheet, 1) as usize
-}
+ghost use Rattle.ir.specs.Function.{functionOf};
+ghost use Rattle.layout.specs.Layout.{Laid};
+ghost use Rattle.plain.specs.Parts.{areNamed, Counts, Few, oneMore, firstFault};
 
 // Counts a label that stands in the body.
 fn count_label(counts: &mut [u64; 256], instr: Instr)

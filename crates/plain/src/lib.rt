@@ -14,7 +14,8 @@ ghost use mathlib.Core.Path.{_≡_};
 ghost use mathlib.Core.Bool.{true};
 ghost use Rattle.ir.specs.Function.{functionOf};
 ghost use Rattle.plain.specs.Answers.{Says, faultOf};
-ghost use Rattle.plain.specs.Parts.{areNamed, Laid, verdict};
+ghost use Rattle.layout.specs.Layout.{Laid};
+ghost use Rattle.plain.specs.Parts.{areNamed, verdict};
 
 // Yes, or no with the number of some instruction at fault; 0 for variables, parameters, the return type or refusals 1 to 3.
 pub enum Plainness {

@@ -49,7 +49,7 @@ unfolding bytesOfRecords recordsOf listBytes
 list-bytes [] = refl
 list-bytes (i ∷ is) = ap (λ (x : List ℕ). recordBytes (recordOf i) ++ x) (list-bytes is)
 
-list-length : (is : List Instruction) → length (recordsOf is) ≡ length is
+pub list-length : (is : List Instruction) → length (recordsOf is) ≡ length is
 unfolding recordsOf
 list-length [] = refl
 list-length (i ∷ is) = ap suc (list-length is)

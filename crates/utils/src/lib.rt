@@ -91,7 +91,7 @@ pub fn displacement(tables: &[u8], offsets: &[u64], id: u64) -> Number
 }
 
 // The pattern of minus `n`.
-fn negated(n: u64) -> u64
+pub fn negated(n: u64) -> u64
     ensures { λ r. ⌜ r ≡ minus n ⌝ }
 {
     if n == 0 {

@@ -40,7 +40,7 @@ unfolding instrsCheck
 returns c =
     let p = c .before .before .before in
     let q = p .before .before .before in
-    stops _ _ (q .before .loop .inv) (q .loop-test .taken) (λ m. simp (← p .instr-check .ensures, c .before .number .given .1))
+    stops _ _ (q .before .loop .inv) (q .loop-test .taken) (simp (← p .instr-check .ensures, c .before .number .given .1))
 
 sub-left : tie.Need-sub-left Inv-loop μ-loop
 sub-left c = omega arith
@@ -53,7 +53,7 @@ unfolding instrsCheck
 loop-again c =
     let p = c .before in
     let q = p .before in
-    goes-on _ _ (q .before .loop .inv) _ (q .loop-test .taken) (λ m. ⊎-elim
+    goes-on _ _ (q .before .loop .inv) _ (q .loop-test .taken) (⊎-elim
     (λ a. simp (laid-right _ (q .before .loop .here) (sym (p .is-laid .ensures) ∙ a .0 .taken) .0, a .2))
     (λ b. simp (← b .1 .ensures, b .3 .given .1, b .5))
     (c .if1 .came))

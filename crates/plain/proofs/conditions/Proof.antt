@@ -3,7 +3,7 @@ use lib.ListN.{replicate, length-replicate, getD-replicate}
 use mathlib.Core.List.{[]}
 use Prim.Native.Nat.{ℕ}
 use Rattle.machine.specs.Plain.{labelCount}
-use Rattle.plain.proofs.Walk.{has-params}
+use Rattle.layout.proofs.Walk.{has-params}
 use borrow.Author.Tests.{not-true, not-false}
 use borrow.Author.Needs.{needs}
 use Rattle.plain.proofs.conditions.Statement.{statement}

@@ -1,7 +1,7 @@
 use native.Mathlib.Omega.{arith}
 use Rattle.utils.specs.Answers.{lent}
 use Rattle.generation.specs.Pass.{bodyOf}
-use Rattle.generation.proofs.Walk.{has-header, has-params, walk-here, walk-few}
+use Rattle.layout.proofs.Walk.{has-header, has-params, walk-here, walk-few}
 use Rattle.generation.proofs.Running.{Writing, none-written, written-takes, written-few, written-more, all-written}
 use Rattle.generation.proofs.body.write_body.Statement.{statement}
 use Rattle.generation.proofs.body.write_body.Tie as tie

@@ -24,7 +24,7 @@ enum-known-c c = search needs
 returns : tie.Need-returns Inv-loop μ-loop
 returns c =
     let p = c .before .before .before in
-    stops _ _ (p .before .before .loop .inv) (p .before .loop-test .taken) (λ m. rw (floats-turn, ← p .end-check .ensures, c .before .c .given .1))
+    stops _ _ (p .before .before .loop .inv) (p .before .loop-test .taken) (rw (floats-turn, ← p .end-check .ensures, c .before .c .given .1))
 
 enum-told : tie.Need-enum-told Inv-loop μ-loop
 enum-told c = search needs
@@ -43,7 +43,7 @@ returns-2 c =
     let p = c .before .before .before in
     let q = p .before .before .before in
     stops _ _ (q .before .before .loop .inv) (q .before .loop-test .taken)
-    (λ m. rw (floats-turn, ← q .end-check .ensures, p .before .enum-told .given .1, ← p .within .ensures, c .before .k .given .1))
+    (rw (floats-turn, ← q .end-check .ensures, p .before .enum-told .given .1, ← p .within .ensures, c .before .k .given .1))
 
 sub-left : tie.Need-sub-left Inv-loop μ-loop
 sub-left c = omega arith
@@ -56,7 +56,7 @@ loop-again c =
     let p = c .before .before .before in
     let q = p .before .before .before in
     goes-on _ _ (q .before .before .loop .inv) _ (q .before .loop-test .taken)
-    (λ m. rw (floats-turn, ← q .end-check .ensures, p .before .enum-told .given .1, ← p .within .ensures, c .before .next .given .1))
+    (rw (floats-turn, ← q .end-check .ensures, p .before .enum-told .given .1, ← p .within .ensures, c .before .next .given .1))
 
 end-check-requires-2 : tie.Need-end-check-requires-2 Inv-loop μ-loop
 end-check-requires-2 c κs = search needs

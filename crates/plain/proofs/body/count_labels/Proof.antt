@@ -1,4 +1,4 @@
-use Rattle.plain.proofs.Walk.{has-header, has-params, walk-here}
+use Rattle.layout.proofs.Walk.{has-header, has-params, walk-here}
 use Rattle.plain.proofs.Counting.{Counting, none-counted, room-left, one-counted, all-counted}
 use native.Mathlib.Omega.{arith}
 use Rattle.plain.proofs.body.count_labels.Statement.{statement}

@@ -2,7 +2,7 @@ use borrow.Author.Tests.{not-true, not-false}
 use Rattle.machine.specs.Plain.{isPlainInstr}
 use Rattle.ir.specs.declared.Instr.{Instr}
 use Rattle.ir.specs.Function.{functionOf}
-use Rattle.plain.proofs.Walk.{has-header, has-types, has-params, walk-here}
+use Rattle.layout.proofs.Walk.{has-header, has-types, has-params, walk-here}
 use Rattle.plain.proofs.Faults.{Testing, none-tested, label-small, one-tested, fault-found, all-tested}
 use mathlib.Core.Path.{sym, ap, _∙_}
 use native.Mathlib.Omega.{arith}

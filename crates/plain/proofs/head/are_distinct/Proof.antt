@@ -4,7 +4,7 @@ use Rattle.machine.specs.Plain.{isAbsent, areDistinct}
 use Rattle.ir.specs.Function.{varsAt, varAt}
 use Rattle.cells.specs.Cells.{cells}
 use Prim.Native.Nat.{ℕ, _≤_, _+_, _-_, _*_}
-use Rattle.plain.proofs.Turns.{Left, goes-on, stops, ends}
+use Rattle.layout.proofs.Turns.{Left, goes-on, stops, ends}
 use mathlib.Core.Path.{_≡_, refl, sym, ap, _∙_}
 use borrow.Author.Tests.{not-true, not-false}
 use native.Mathlib.Omega.{arith}

@@ -5,7 +5,7 @@ use mathlib.Core.Path.{ap, _∙_}
 use Rattle.machine.specs.Plain.{sameType, noType}
 use native.Mathlib.Omega.{arith}
 use Rattle.ir.specs.Function.{functionOf}
-use Rattle.plain.proofs.Sheet.{types-length, type-there}
+use Rattle.ir.proofs.Sheet.{types-length, type-there}
 use borrow.Author.Tests.{lt-ltb, le-ltb}
 use borrow.Author.Needs.{needs}
 use Rattle.plain.proofs.vars.is_entry.Statement.{statement}

@@ -1,18 +1,22 @@
 -- The body of a sheet whose layout is right, instruction by instruction.
 use Prim.Native.Nat.{ℕ, zero, suc, _+_, _-_, _≤_, _<_}
-use mathlib.Core.Path.{_≡_, refl, ap}
-use mathlib.Core.List.{List, _∷_}
+use mathlib.Core.Path.{_≡_, refl}
+use mathlib.Core.List.{List}
+use mathlib.Core.Bool.{Bool, true, false, cond}
 use native.Mathlib.Omega.{arith}
-use lib.ListN.{length}
+use borrow.Author.Tests.{eqb-true}
+use lib.Dec.{eqb}
 use Rattle.cells.specs.Cells.{cells, cellAt}
 use Rattle.cells.specs.declared.Cursor.{Cursor}
 use Rattle.layout.specs.declared.Checked.{Checked}
-use Rattle.layout.specs.Layout.{cursor, instrsCheck}
+use Rattle.layout.specs.Layout.{cursor, instrsCheck, sheetCheck, Laid}
 use Rattle.layout.proofs.Laws.{Right, sheet-right, types-run, vars-run, instr-right, instrs-more}
-use Rattle.ir.specs.Function.{lineAt, linesAt, behind, paramsFrom, bodyFrom}
-use Rattle.plain.specs.Parts.{Laid}
+use Rattle.ir.specs.Function.{argumentsAt, behind, paramsFrom, bodyFrom}
 
 -- ---- the sheet
+
+pub laid-from : {s : List ℕ} {d : Cursor} → sheetCheck s ≡ Checked.Behind d → Laid s
+laid-from {s} {d} e = record { end = d; is = e }
 
 module _ {s : List ℕ} (r : Laid s) where
   right : Right s (r .end)
@@ -27,6 +31,9 @@ module _ {s : List ℕ} (r : Laid s) where
   pub has-params : bodyFrom s ≤ cells s
   has-params = vars-run s (cellAt s 1) (cursor (paramsFrom s)) (right .parameters) .within has-types
 
+  pub has-vars : cellAt s 0 ≤ 256
+  has-vars = right .vars
+
   pub has-few : cellAt s 5 ≤ 4096
   has-few = right .instrs
 
@@ -39,22 +46,24 @@ pub record Walk (s : List ℕ) (n k : ℕ) : Type 0 where
 pub walk-from : {s : List ℕ} → Laid s → Walk s (cellAt s 5) (bodyFrom s)
 walk-from r = record { end = r .end; is = right r .body }
 
-pub lines-length : (s : List ℕ) (n k : ℕ) → length (linesAt s n k) ≡ n
-unfolding linesAt
-lines-length s zero k = refl
-lines-length s (suc n) k = ap suc (lines-length s n (behind s k))
-
-pub lines-more : (s : List ℕ) (n k : ℕ) → 0 < n → linesAt s n k ≡ (lineAt s k ∷ linesAt s (n - 1) (behind s k))
-unfolding linesAt
-lines-more s zero k h = absurd (omega arith)
-lines-more s (suc n) k h = let l : n ≡ suc n - 1 = omega arith in ap (λ (m : ℕ). lineAt s k ∷ linesAt s m (behind s k)) l
-
 module _ {s : List ℕ} where
   pub walk-here : (n k : ℕ) → Walk s n k → 0 < n → (k + 13 ≤ cells s) × (behind s k ≤ cells s)
   walk-here zero k w h = absurd (omega arith)
   walk-here (suc n) k w h =
       let b = instr-right s (cursor k) (instrs-more s n (cursor k) (w .is) .0) .body in
       (b .there, omega (arith, b .ends, b .within))
+
+  -- a call has few arguments
+  pub walk-few : (n k : ℕ) → Walk s n k → 0 < n → argumentsAt s k ≤ 64
+  unfolding argumentsAt
+  walk-few zero k w h = absurd (omega arith)
+  walk-few (suc n) k w h =
+      let b = instr-right s (cursor k) (instrs-more s n (cursor k) (w .is) .0) .body in
+      go (eqb (cellAt s k) 5) (λ e. b .call (eqb-true _ _ e) .count)
+    where
+      go : (t : Bool) → (t ≡ true → cellAt s (k + 6) ≤ 64) → cond t (cellAt s (k + 6)) 0 ≤ 64
+      go true f = f refl
+      go false f = omega arith
 
   pub walk-next : (n k : ℕ) → Walk s n k → 0 < n → Walk s (n - 1) (behind s k)
   walk-next zero k w h = absurd (omega arith)
