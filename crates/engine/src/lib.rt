@@ -1,7 +1,7 @@
 // What the C engine links: the lowering and the plain test, on byte slices, with numbers for answers.
+use conditions::Plainness;
 use generation::Answer;
 use generation::generate;
-use plain::Plainness;
 use plain::plain;
 ghost use mathlib.Core.Path.{_≡_};
 ghost use mathlib.Core.List.{List};

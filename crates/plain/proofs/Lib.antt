@@ -1,8 +1,3 @@
-pub mod Rest
-pub mod Tests
-pub mod Counting
-pub mod Faults
-pub mod Headed
 pub mod Named
 pub mod Verdict
 pub mod Late

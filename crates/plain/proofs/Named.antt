@@ -22,7 +22,7 @@ use Rattle.codegen.specs.Generation.{accepted, generateInstr, generate}
 use Rattle.codegen.proofs.Results.{Yields, yields, any, bind, weaken, guard}
 use Rattle.machine.specs.Plain.{every}
 use Rattle.machine.proofs.Accepted.{accepted-list}
-use Rattle.plain.specs.Parts.{labelOf, areNamed}
+use Rattle.conditions.specs.Parts.{labelOf, areNamed}
 
 label-below : (labels l : ℕ) → Yields (labelAt labels l) (λ k. l < labels)
 unfolding labelAt

@@ -13,9 +13,9 @@ use Rattle.ir.specs.Function.{Function, Line, tablesOf, functionOf}
 use Rattle.x86.specs.declared.enums.Instruction.{Instruction}
 use Rattle.codegen.specs.Generation.{Outcome, accepted, refused, generate, checked, compiled}
 use Rattle.machine.specs.Plain.{isPlainHead, isPlainInstr, isPlainLine, isPlainAt, isRefusedAt, isFault}
-use Rattle.plain.specs.declared.Plainness.{Plainness}
+use Rattle.conditions.specs.declared.Plainness.{Plainness}
 use Rattle.layout.specs.Layout.{Laid}
-use Rattle.plain.specs.Parts.{areNamed, firstFault, verdict}
+use Rattle.conditions.specs.Parts.{areNamed, firstFault, verdict}
 use Rattle.plain.specs.Answers.{Says, faultOf}
 use Rattle.machine.proofs.Accepted.{never}
 use Rattle.plain.proofs.Early.{sheet-refused, tables-refused}

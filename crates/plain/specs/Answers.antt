@@ -5,7 +5,7 @@ use mathlib.Core.Bool.{true, cond}
 use lib.Dec.{ltb}
 use mathlib.Core.List.{List}
 use Rattle.machine.specs.Plain.{Plain, isFault}
-use Rattle.plain.specs.declared.Plainness.{Plainness}
+use Rattle.conditions.specs.declared.Plainness.{Plainness}
 
 -- yes: no number is at fault; no: this number is. Which of those at fault is left open
 abbrev pub Says : List ℕ → List ℕ → Plainness → Type 0

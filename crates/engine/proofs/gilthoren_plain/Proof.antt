@@ -1,5 +1,5 @@
 use mathlib.Core.Path.{subst}
-use Rattle.plain.specs.declared.Plainness.{Plainness}
+use Rattle.conditions.specs.declared.Plainness.{Plainness}
 use Rattle.plain.specs.Answers.{Says}
 use Rattle.engine.proofs.Numbers.{plain-yes, plain-no}
 use borrow.Author.Needs.{needs}

@@ -1,0 +1,5 @@
+pub mod Rest
+pub mod Tests
+pub mod Counting
+pub mod Faults
+pub mod Headed

@@ -1,0 +1,37 @@
+use Rattle.conditions.specs.Parts.{Counts, verdict}
+use lib.ListN.{replicate, length-replicate, getD-replicate}
+use mathlib.Core.List.{[]}
+use Prim.Native.Nat.{ℕ}
+use Rattle.machine.specs.Plain.{labelCount}
+use Rattle.layout.proofs.Walk.{has-params}
+use borrow.Author.Tests.{not-true, not-false}
+use borrow.Author.Needs.{needs}
+use Rattle.conditions.proofs.conditions.Statement.{statement}
+use Rattle.conditions.proofs.conditions.Tie as tie
+
+is-plain-head-requires : tie.Need-is-plain-head-requires
+is-plain-head-requires c κs = has-params (c .before .pre .0)
+
+returns : tie.Need-returns
+unfolding verdict
+returns c = simp (← c .before .is-plain-head .ensures, not-true (c .before .is-plain-head .result) (c .if1 .taken))
+
+count-labels-requires : tie.Need-count-labels-requires
+unfolding labelCount
+count-labels-requires c κs =
+    let z : Counts [] (replicate 256 0) = record { long = length-replicate {A = ℕ} 256 0; each = λ l h. getD-replicate {A = ℕ} 256 l 0 0 h } in
+    (c .before .before .before .before .pre .0, z)
+
+first-fault-requires : tie.Need-first-fault-requires
+first-fault-requires c κs = search needs
+
+returns-2 : tie.Need-returns-2
+unfolding verdict
+returns-2 c =
+    let h = c .before .before .before .before .before .is-plain-head in
+    simp (← h .ensures, not-false (h .result) (c .before .before .before .before .if1 .left), ← c .first-fault .ensures)
+
+pub conditions-spec : {M : Type 1} → statement M
+conditions-spec =
+    tie.close
+    (tie.spec is-plain-head-requires returns count-labels-requires first-fault-requires returns-2)

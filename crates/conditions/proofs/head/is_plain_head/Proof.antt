@@ -1,0 +1,117 @@
+use Rattle.machine.specs.Plain.{isPlainReturn}
+use Rattle.ir.specs.declared.«Type».{«Type» as IrType}
+use Rattle.conditions.proofs.Headed.{types-fault, return-fault, count-fault, distinct-fault, head-last}
+use mathlib.Core.Path.{sym, ap, _∙_}
+use borrow.Author.Tests.{not-true, not-false}
+use native.Mathlib.Omega.{arith}
+use borrow.Author.Needs.{needs}
+use Rattle.conditions.proofs.head.is_plain_head.Statement.{statement}
+use Rattle.conditions.proofs.head.is_plain_head.Tie as tie
+
+cell-at-requires : tie.Need-cell-at-requires
+cell-at-requires c κs = search needs
+
+cell-at-requires-2 : tie.Need-cell-at-requires-2
+cell-at-requires-2 c κs = search needs
+
+mul-from : tie.Need-mul-from
+mul-from c = search needs
+
+add-from : tie.Need-add-from
+add-from c = search needs
+
+are-plain-types-requires : tie.Need-are-plain-types-requires
+are-plain-types-requires c κs = search needs
+
+returns : tie.Need-returns
+returns c =
+    let r1 = c in
+    let q = r1 .before .before .before in
+    let s = q .before .before .args .sheet .now in
+    let e1 = sym (rw (q .cell-at .ensures) at (r1 .before .are-plain-types .ensures)) ∙ not-true _ (r1 .if1 .taken) in
+    types-fault s e1
+
+type-at-requires : tie.Need-type-at-requires
+type-at-requires c κs = search needs
+
+is-plain-return-requires : tie.Need-is-plain-return-requires
+is-plain-return-requires c κs = search needs
+
+returns-2 : tie.Need-returns-2
+returns-2 c =
+    let r2 = c in
+    let r1 = r2 .before .before .before in
+    let q = r1 .before .before .before in
+    let s = q .before .before .args .sheet .now in
+    let e1 = sym (rw (q .cell-at .ensures) at (r1 .before .are-plain-types .ensures)) ∙ not-false _ (r1 .if1 .left) in
+    let t = r2 .before .before .type-at .ensures in
+    let e2 = sym (r2 .before .is-plain-return .ensures ∙ ap (λ (t : IrType). isPlainReturn t) t) ∙ not-true _ (r2 .if2 .taken) in
+    return-fault s e1 e2
+
+returns-3 : tie.Need-returns-3
+returns-3 c =
+    let r3 = c in
+    let r2 = r3 .before in
+    let r1 = r2 .before .before .before in
+    let q = r1 .before .before .before in
+    let s = q .before .before .args .sheet .now in
+    let e1 = sym (rw (q .cell-at .ensures) at (r1 .before .are-plain-types .ensures)) ∙ not-false _ (r1 .if1 .left) in
+    let t = r2 .before .before .type-at .ensures in
+    let e2 = sym (r2 .before .is-plain-return .ensures ∙ ap (λ (t : IrType). isPlainReturn t) t) ∙ not-false _ (r2 .if2 .left) in
+    let n = r1 .before .before .cell-at2 .ensures in
+    count-fault s e1 e2 (omega (arith, n, r3 .if3 .taken))
+
+are-distinct-requires : tie.Need-are-distinct-requires
+are-distinct-requires c κs = search needs
+
+returns-4 : tie.Need-returns-4
+returns-4 c =
+    let r4 = c in
+    let r3 = r4 .before .before in
+    let r2 = r3 .before in
+    let r1 = r2 .before .before .before in
+    let q = r1 .before .before .before in
+    let s = q .before .before .args .sheet .now in
+    let e1 = sym (rw (q .cell-at .ensures) at (r1 .before .are-plain-types .ensures)) ∙ not-false _ (r1 .if1 .left) in
+    let t = r2 .before .before .type-at .ensures in
+    let e2 = sym (r2 .before .is-plain-return .ensures ∙ ap (λ (t : IrType). isPlainReturn t) t) ∙ not-false _ (r2 .if2 .left) in
+    let n = r1 .before .before .cell-at2 .ensures in
+    let e4 = sym (rw (q .cell-at .ensures, n) at (r4 .before .are-distinct .ensures)) ∙ not-true _ (r4 .if4 .taken) in
+    distinct-fault s e1 e2 (omega (arith, n, r3 .if3 .left)) e4
+
+are-scalar-vars-requires : tie.Need-are-scalar-vars-requires
+are-scalar-vars-requires c κs = search needs
+
+returns-5 : tie.Need-returns-5
+returns-5 c =
+    let r4 = c .before in
+    let r3 = r4 .before .before in
+    let r2 = r3 .before in
+    let r1 = r2 .before .before .before in
+    let q = r1 .before .before .before in
+    let s = q .before .before .args .sheet .now in
+    let e1 = sym (rw (q .cell-at .ensures) at (r1 .before .are-plain-types .ensures)) ∙ not-false _ (r1 .if1 .left) in
+    let t = r2 .before .before .type-at .ensures in
+    let e2 = sym (r2 .before .is-plain-return .ensures ∙ ap (λ (t : IrType). isPlainReturn t) t) ∙ not-false _ (r2 .if2 .left) in
+    let n = r1 .before .before .cell-at2 .ensures in
+    let e4 = sym (rw (q .cell-at .ensures, n) at (r4 .before .are-distinct .ensures)) ∙ not-false _ (r4 .if4 .left) in
+    rw (q .cell-at .ensures, n) at (c .are-scalar-vars .ensures) ∙ head-last s e1 e2 (omega (arith, n, r3 .if3 .left)) e4
+
+pub is-plain-head-spec : {M : Type 1} → statement M
+is-plain-head-spec =
+    tie.close
+    (tie.spec
+    cell-at-requires
+    cell-at-requires-2
+    mul-from
+    add-from
+    are-plain-types-requires
+    returns
+    type-at-requires
+    is-plain-return-requires
+    returns-2
+    returns-3
+    are-distinct-requires
+    returns-4
+    are-scalar-vars-requires
+    returns-5)

@@ -1,0 +1,87 @@
+use Rattle.machine.specs.Plain.{isPlainBinary}
+use Rattle.ir.specs.Function.{binaryOp}
+use native.Mathlib.Omega.{arith}
+use mathlib.Core.Path.{_∙_}
+use Rattle.conditions.proofs.Tests.{logical, bitwise, comparison, shift, additive, remainder}
+use borrow.Author.Needs.{needs}
+use Rattle.conditions.proofs.instrs.is_plain_binary.Statement.{statement}
+use Rattle.conditions.proofs.instrs.is_plain_binary.Tie as tie
+
+is-plain-mul-requires : tie.Need-is-plain-mul-requires
+is-plain-mul-requires c κs = search needs
+
+is-plain-div-requires : tie.Need-is-plain-div-requires
+is-plain-div-requires c κs = search needs
+
+is-plain-sum-requires : tie.Need-is-plain-sum-requires
+is-plain-sum-requires c κs = search needs
+
+is-bool-type-requires : tie.Need-is-bool-type-requires
+is-bool-type-requires c κs = search needs
+
+is-same-requires : tie.Need-is-same-requires
+is-same-requires c κs = search needs
+
+is-plain-sum-requires-2 : tie.Need-is-plain-sum-requires-2
+is-plain-sum-requires-2 c κs = search needs
+
+is-plain-rem-requires : tie.Need-is-plain-rem-requires
+is-plain-rem-requires c κs = search needs
+
+returns : tie.Need-returns
+unfolding isPlainBinary binaryOp
+returns c = simp (c .before .match .keys1, ← c .is-plain-mul .ensures)
+
+returns-2 : tie.Need-returns-2
+unfolding isPlainBinary binaryOp
+returns-2 c = simp (c .before .match .keys2, ← c .is-plain-div .ensures)
+
+returns-3 : tie.Need-returns-3
+returns-3 c =
+    let a = c .before .before .before .args in
+    logical (a .d) (a .x) (a .y) (a .op) (omega arith)
+
+returns-4 : tie.Need-returns-4
+returns-4 c =
+    let a = c .before .before .before .before .before .args in
+    c .is-plain-sum .ensures ∙ bitwise (a .d) (a .x) (a .y) (a .op) (omega arith) (omega arith)
+
+returns-5 : tie.Need-returns-5
+returns-5 c =
+    let a = c .before .before .before .before .before .before .args in
+    c .is-bool-type .ensures ∙ comparison (a .d) (a .x) (a .y) (a .op) (omega arith) (omega arith)
+
+returns-6 : tie.Need-returns-6
+returns-6 c =
+    let a = c .before .before .before .before .before .before .before .args in
+    c .is-same .ensures ∙ shift (a .d) (a .x) (a .y) (a .op) (omega arith) (omega arith)
+
+returns-7 : tie.Need-returns-7
+returns-7 c =
+    let a = c .before .before .before .before .before .before .before .before .args in
+    c .is-plain-sum2 .ensures ∙ additive (a .d) (a .x) (a .y) (a .op) (omega arith) (omega arith)
+
+returns-8 : tie.Need-returns-8
+returns-8 c =
+    let a = c .before .before .before .before .before .before .before .before .args in
+    c .is-plain-rem .ensures ∙ remainder (a .d) (a .x) (a .y) (a .op) (omega arith)
+
+pub is-plain-binary-spec : {M : Type 1} → statement M
+is-plain-binary-spec =
+    tie.close
+    (tie.spec
+    is-plain-mul-requires
+    is-plain-div-requires
+    is-plain-sum-requires
+    is-bool-type-requires
+    is-same-requires
+    is-plain-sum-requires-2
+    is-plain-rem-requires
+    returns
+    returns-2
+    returns-3
+    returns-4
+    returns-5
+    returns-6
+    returns-7
+    returns-8)

@@ -1,0 +1,27 @@
+use Rattle.conditions.specs.Parts.{isSame}
+use Rattle.ir.specs.Function.{functionOf}
+use mathlib.Core.Path.{sym, _∙_}
+use Rattle.conditions.proofs.Tests.{pair-passed, pair-failed}
+use borrow.Author.Needs.{needs}
+use Rattle.conditions.proofs.instrs.is_plain_move.Statement.{statement}
+use Rattle.conditions.proofs.instrs.is_plain_move.Tie as tie
+
+is-plain-pair-requires : tie.Need-is-plain-pair-requires
+is-plain-pair-requires c κs = search needs
+
+is-same-requires : tie.Need-is-same-requires
+is-same-requires c κs = search needs
+
+returns : tie.Need-returns
+returns c =
+    let a = c .before .before .before .before .args in
+    c .is-same .ensures
+    ∙ sym (pair-passed (functionOf (a .sheet .now)) (a .d) (a .x) (c .before .before .is-plain-pair .ensures) (c .before .if1 .taken) (isSame (a .d) (a .x)))
+
+returns-2 : tie.Need-returns-2
+returns-2 c =
+    let a = c .before .before .before .args in
+    sym (pair-failed (functionOf (a .sheet .now)) (a .d) (a .x) (c .before .is-plain-pair .ensures) (c .if1 .left) (isSame (a .d) (a .x)))
+
+pub is-plain-move-spec : {M : Type 1} → statement M
+is-plain-move-spec = tie.close (tie.spec is-plain-pair-requires is-same-requires returns returns-2)
