@@ -1,4 +1,3 @@
 pub mod Heads
-pub mod Running
 pub mod Listing
 pub mod Lowering

@@ -28,12 +28,13 @@ use Rattle.utils.proofs.Emitted.{listBytes-length}
 use Rattle.utils.proofs.Parts.{put-none, put-more}
 use Rattle.frame.proofs.Prologue.{few-stores}
 use Rattle.integers.specs.Integers.{Fits, Wrote}
-use Rattle.generation.specs.declared.body.Passed.{Passed}
+use Rattle.bodies.specs.declared.Passed.{Passed}
 use Rattle.generation.specs.declared.pass.Ready.{Ready}
 use Rattle.generation.specs.Answers.{countedOutcome}
-use Rattle.generation.specs.Pass.{bodyOf, listOf, ending}
-use Rattle.generation.specs.Survey.{Accepts, passedOf, countedList, framed}
-use Rattle.generation.proofs.Running.{wrote-put}
+use Rattle.bodies.specs.Body.{bodyOf, Accepts, passedOf}
+use Rattle.generation.specs.Pass.{listOf, ending}
+use Rattle.generation.specs.Survey.{countedList, framed}
+use Rattle.bodies.proofs.Running.{wrote-put}
 
 -- ---- the prologue is short, and does not end in Ret
 

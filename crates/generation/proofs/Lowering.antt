@@ -35,10 +35,12 @@ use Rattle.frame.specs.Sizes.{totalOf, sizesAt}
 use Rattle.generation.specs.declared.Answer.{Answer}
 use Rattle.generation.specs.declared.pass.Ready.{Ready}
 use Rattle.generation.specs.Answers.{answerSays, countedOutcome}
-use Rattle.generation.specs.Head.{headCheck, headed, Lies}
-use Rattle.generation.specs.Pass.{bodyOf, listOf}
-use Rattle.generation.specs.Survey.{Accepts, Opens, LendsIf, passedOf, countedList, rounded, framed, sizedThen, readySays}
-use Rattle.generation.proofs.Heads.{sheet-head, head-right, head-total}
+use Rattle.bodies.specs.Head.{headCheck}
+use Rattle.generation.specs.Head.{headed, Lies}
+use Rattle.bodies.specs.Body.{bodyOf, Accepts, passedOf}
+use Rattle.generation.specs.Pass.{listOf}
+use Rattle.generation.specs.Survey.{Opens, LendsIf, countedList, rounded, framed, sizedThen, readySays}
+use Rattle.bodies.proofs.Heads.{sheet-head, head-right, head-total}
 use Rattle.generation.proofs.Listing.{prologue-short, list-is, list-counted}
 
 -- ---- the offsets

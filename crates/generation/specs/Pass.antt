@@ -3,16 +3,13 @@ use Prim.Native.Nat.{ℕ}
 use mathlib.Core.List.{List, [], _++_}
 use mathlib.Core.Bool.{Bool, true, false}
 use Rattle.cells.specs.Cells.{cellAt}
-use Rattle.ir.specs.Function.{typeAt, varsAt, linesAt, paramsFrom, bodyFrom}
+use Rattle.ir.specs.Function.{varsAt, paramsFrom}
 use Rattle.x86.specs.declared.enums.Instruction.{Instruction}
 use Rattle.codegen.specs.Instructions.{funcEpilogue}
 use Rattle.codegen.specs.Frame.{funcPrologue}
-use Rattle.codegen.specs.Generation.{Outcome, accepted, _>>=_, at, generateBody, withEpilogue}
+use Rattle.codegen.specs.Generation.{Outcome, accepted, _>>=_, at, withEpilogue}
 use Rattle.utils.specs.Answers.{lent}
-
--- the body's records, with the offsets that are lent
-unfoldable pub bodyOf : List ℕ → List ℕ → List ℕ → Outcome (List Instruction)
-bodyOf tables offsets s = generateBody (lent tables offsets) (cellAt s 2) (typeAt s 3) 1 (linesAt s (cellAt s 5) (bodyFrom s))
+use Rattle.bodies.specs.Body.{bodyOf}
 
 -- prologue, body, and the epilogue unless the last record is Ret
 unfoldable pub listOf : List ℕ → List ℕ → ℕ → List ℕ → Outcome (List Instruction)

@@ -9,50 +9,20 @@ use Rattle.ir.specs.declared.types.Number.{Number}
 use Rattle.ir.specs.Types.{Result}
 use Rattle.ir.specs.Function.{typesAt}
 use Rattle.cells.specs.declared.Cursor.{Cursor}
-use Rattle.layout.specs.declared.Checked.{Checked}
 use Rattle.layout.specs.declared.Limited.{Limited}
 use Rattle.laid.specs.Laid.{accepts}
 use Rattle.layout.specs.Layout.{tablesCheck}
 use Rattle.x86.specs.declared.enums.Instruction.{Instruction}
 use Rattle.codegen.specs.Frame.{offsetsFrom}
-use Rattle.codegen.specs.Generation.{Outcome, accepted, refused, _>>=_, at, endsInRet, compiled}
+use Rattle.codegen.specs.Generation.{Outcome, accepted, refused, _>>=_, at, compiled}
 use Rattle.utils.specs.Answers.{counted}
 use Rattle.frame.specs.Sizes.{sizesAt}
-use Rattle.integers.specs.Integers.{Fits}
-use Rattle.generation.specs.declared.body.Surveyed.{Surveyed}
-use Rattle.generation.specs.declared.body.Passed.{Passed}
+use Rattle.bodies.specs.declared.Passed.{Passed}
 use Rattle.generation.specs.declared.pass.Opened.{Opened}
 use Rattle.generation.specs.declared.pass.Ready.{Ready}
-use Rattle.generation.specs.Head.{headCheck}
+use Rattle.bodies.specs.Head.{headCheck}
 use Rattle.layout.specs.Layout.{Laid}
 use Rattle.generation.specs.Pass.{ending, listOf}
-
--- ---- the body
-
--- the number of its records and whether the last of them is Ret
-abbrev pub passedOf : Outcome (List Instruction) → Passed
-passedOf (accepted is) = Passed.Made (length is) (endsInRet is)
-passedOf (refused n i) = Passed.Refused n i
-
--- its layout comes first
-abbrev pub surveyOf : Checked → Passed → Surveyed
-surveyOf (Checked.Behind c) p = Surveyed.Laid p c
-surveyOf (Checked.Refused n k) p = Surveyed.Wrong n k
-
--- an instruction makes at most 17 records
-abbrev pub madeBy : Passed → ℕ
-madeBy (Passed.Made n ret) = n
-madeBy (Passed.Refused n i) = 0
-
-abbrev pub madeIn : Surveyed → ℕ
-madeIn (Surveyed.Laid p c) = madeBy p
-madeIn (Surveyed.Wrong n k) = 0
-
--- no instruction refuses, and the bytes have room for the records from `at` on
-pub record Accepts (r : Outcome (List Instruction)) (at : ℕ) (bs : List ℕ) : Type 0 where
-  pub list : List Instruction
-  pub made : r ≡ accepted list
-  pub fits : Fits list at bs
 
 -- ---- the list
 

@@ -16,7 +16,8 @@ ghost use Rattle.ir.specs.Function.{typesAt};
 ghost use Rattle.laid.specs.Laid.{accepts};
 ghost use Rattle.codegen.specs.Frame.{offsetsFrom};
 ghost use Rattle.frame.specs.Sizes.{sizesAt, typedOf};
-ghost use Rattle.generation.specs.Head.{listsHead, restHead, headCheck, headed, Lies};
+ghost use Rattle.bodies.specs.Head.{listsHead, restHead, headCheck};
+ghost use Rattle.generation.specs.Head.{headed, Lies};
 
 // The types of so many variables, and so many parameters.
 fn lists_head(s: &[u8], vars: u64, params: u64, c: Cursor, offsets: &mut [u64; 256]) -> Typed

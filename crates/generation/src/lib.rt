@@ -1,5 +1,4 @@
 // Krc's codegen/generation.rs: the list of a function's records, or the first refusal with its place.
-mod body;
 mod head;
 mod pass;
 

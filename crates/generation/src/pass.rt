@@ -1,9 +1,9 @@
 // The two passes over a sheet: the first surveys it, the second writes its list.
-use crate::body::Passed;
-use crate::body::Surveyed;
-use crate::body::survey_body;
-use crate::body::write_body;
 use crate::head::head_check;
+use bodies::Passed;
+use bodies::Surveyed;
+use bodies::survey_body;
+use bodies::write_body;
 use cells::Cursor;
 use cells::cell_at;
 use frame::Typed;
@@ -31,10 +31,11 @@ ghost use Rattle.codegen.specs.Generation.{accepted, compiled};
 ghost use Rattle.utils.specs.Answers.{lent};
 ghost use Rattle.frame.specs.Sizes.{sizesAt};
 ghost use Rattle.generation.specs.Answers.{countedOutcome};
-ghost use Rattle.generation.specs.Head.{headCheck};
+ghost use Rattle.bodies.specs.Head.{headCheck};
 ghost use Rattle.layout.specs.Layout.{Laid};
 ghost use Rattle.generation.specs.Pass.{listOf, ending};
-ghost use Rattle.generation.specs.Survey.{Accepts, Opens, OpensIf, LendsIf, madeBy, countedList, sizedThen, readySays};
+ghost use Rattle.bodies.specs.Body.{Accepts, madeBy};
+ghost use Rattle.generation.specs.Survey.{Opens, OpensIf, LendsIf, countedList, sizedThen, readySays};
 
 // The total of the variables' sizes and the cursor of the first instruction, or a refusal with its place.
 pub enum Opened {

@@ -4,7 +4,7 @@ use Prim.Native.Nat.{ℕ}
 use lib.ListN.{length-replicate}
 use Rattle.generation.specs.Answers.{countedOutcome}
 use Rattle.generation.specs.Survey.{readySays}
-use Rattle.generation.proofs.Heads.{head-header, head-vars}
+use Rattle.bodies.proofs.Heads.{head-header, head-vars}
 use Rattle.generation.proofs.Lowering.{lent-long, lent-few}
 use borrow.Author.Needs.{needs}
 use Rattle.generation.proofs.count.Statement.{statement}

@@ -3,7 +3,7 @@ use native.Mathlib.Omega.{arith}
 use Prim.Native.Nat.{ℕ}
 use lib.ListN.{length-replicate}
 use Rattle.codegen.specs.Generation.{refused}
-use Rattle.generation.proofs.Heads.{head-header, head-vars}
+use Rattle.bodies.proofs.Heads.{head-header, head-vars}
 use Rattle.generation.proofs.Lowering.{lent-long, lent-few, paged-refused, left-lowered, obeying, simulating}
 use borrow.Author.Needs.{needs}
 use Rattle.generation.proofs.generate.Statement.{statement}

@@ -1,6 +1,6 @@
 use mathlib.Core.Path.{refl, sym, _∙_}
 use Rattle.layout.specs.Layout.{cursor}
-use Rattle.generation.specs.Head.{headCheck}
+use Rattle.bodies.specs.Head.{headCheck}
 use Rattle.generation.proofs.Heads.{limited-word, head-says}
 use borrow.Author.Needs.{needs}
 use Rattle.generation.proofs.head.head_check.Statement.{statement}

@@ -1,7 +1,7 @@
 use mathlib.Core.Path.{refl, sym, _∙_}
 use Rattle.layout.specs.Layout.{typesCheck, varsCheck}
 use Rattle.frame.specs.Sizes.{sizesAt}
-use Rattle.generation.specs.Head.{listsHead}
+use Rattle.bodies.specs.Head.{listsHead}
 use Rattle.generation.proofs.Heads.{typed-sized, typed-wrong, first-accepted}
 use borrow.Author.Needs.{needs}
 use Rattle.generation.proofs.head.lists_head.Statement.{statement}

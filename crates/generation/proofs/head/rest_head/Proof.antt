@@ -1,5 +1,5 @@
 use mathlib.Core.Path.{refl, sym, _∙_}
-use Rattle.generation.specs.Head.{restHead}
+use Rattle.bodies.specs.Head.{restHead}
 use Rattle.generation.proofs.Heads.{rest-says}
 use borrow.Author.Needs.{needs}
 use Rattle.generation.proofs.head.rest_head.Statement.{statement}

@@ -3,8 +3,8 @@ use native.Mathlib.Omega.{arith}
 use Rattle.cells.specs.Cells.{cellAt}
 use Rattle.ir.specs.Function.{varsAt, paramsFrom}
 use Rattle.utils.specs.Answers.{lent, madeSays}
-use Rattle.generation.specs.Survey.{madeBy}
-use Rattle.generation.proofs.Heads.{head-header, head-vars, head-within}
+use Rattle.bodies.specs.Body.{madeBy}
+use Rattle.bodies.proofs.Heads.{head-header, head-vars, head-within}
 use Rattle.generation.proofs.Listing.{first-few, first-refused, body-refused, all-counted}
 use Rattle.generation.proofs.Lowering.{total-few}
 use borrow.Author.Needs.{needs}

@@ -2,7 +2,7 @@ use mathlib.Core.Path.{sym, ap, _∙_}
 use Rattle.cells.specs.Cells.{cellAt}
 use Rattle.laid.specs.Laid.{accepts}
 use Rattle.frame.specs.Sizes.{sizesAt}
-use Rattle.generation.specs.Head.{headCheck}
+use Rattle.bodies.specs.Head.{headCheck}
 use Rattle.generation.proofs.Lowering.{tables-wrong, head-wrong, headed-wrong, opens}
 use borrow.Author.Needs.{needs}
 use Rattle.generation.proofs.pass.open_sheet.Statement.{statement}

@@ -1,9 +1,8 @@
 use mathlib.Core.Path.{sym, _∙_}
 use Rattle.cells.specs.Cells.{cellAt}
 use Rattle.layout.specs.Layout.{instrsCheck}
-use Rattle.generation.specs.Pass.{bodyOf}
-use Rattle.generation.specs.Survey.{passedOf}
-use Rattle.generation.proofs.Running.{survey-laid, survey-wrong}
+use Rattle.bodies.specs.Body.{bodyOf, passedOf}
+use Rattle.bodies.proofs.Running.{survey-laid, survey-wrong}
 use Rattle.generation.proofs.Lowering.{instrs-say, end-says, survey-says}
 use borrow.Author.Needs.{needs}
 use Rattle.generation.proofs.pass.survey.Statement.{statement}

@@ -6,7 +6,7 @@ use Rattle.x86.specs.Records.{listBytes}
 use Rattle.codegen.specs.Frame.{funcPrologue}
 use Rattle.utils.specs.Answers.{lent, madeSays}
 use Rattle.records.specs.Records.{bytesOfRecords}
-use Rattle.generation.specs.Pass.{bodyOf}
+use Rattle.bodies.specs.Body.{bodyOf}
 use Rattle.layout.proofs.Walk.{has-header, has-vars, has-params}
 use Rattle.generation.proofs.Listing.{list-is, prologue-short, needed-is, first-never, first-short, body-takes, made-long, as-long, all-written, last-takes, last-long, last-written}
 use borrow.Author.Needs.{needs}

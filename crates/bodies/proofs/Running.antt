@@ -34,13 +34,12 @@ use Rattle.utils.proofs.Parts.{put-none, put-more}
 use Rattle.integers.specs.Integers.{Fits, Wrote}
 use Rattle.dispatch.specs.declared.Line as dispatch
 use Rattle.dispatch.specs.Dispatch.{Takes, lineOf}
-use Rattle.generation.specs.declared.body.Passed.{Passed}
-use Rattle.generation.specs.declared.body.Surveyed.{Surveyed}
-use Rattle.generation.specs.Head.{headCheck}
+use Rattle.bodies.specs.declared.Passed.{Passed}
+use Rattle.bodies.specs.declared.Surveyed.{Surveyed}
+use Rattle.bodies.specs.Head.{headCheck}
 use Rattle.layout.specs.Layout.{Laid}
-use Rattle.generation.specs.Pass.{bodyOf}
-use Rattle.generation.specs.Survey.{Accepts, passedOf, surveyOf}
-use Rattle.generation.proofs.Heads.{head-few, head-starts}
+use Rattle.bodies.specs.Body.{bodyOf, Accepts, passedOf, surveyOf}
+use Rattle.bodies.proofs.Heads.{head-few, head-starts}
 use Rattle.layout.proofs.Walk.{Walk, has-few, walk-from, walk-next}
 use Rattle.ir.proofs.Sheet.{lines-more}
 

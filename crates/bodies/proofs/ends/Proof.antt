@@ -2,8 +2,8 @@ use mathlib.Core.Path.{ap}
 use borrow.Author.Tests.{lt-ltb, le-ltb}
 use lib.Dec.{eqb}
 use borrow.Author.Needs.{needs}
-use Rattle.generation.proofs.body.ends.Statement.{statement}
-use Rattle.generation.proofs.body.ends.Tie as tie
+use Rattle.bodies.proofs.ends.Statement.{statement}
+use Rattle.bodies.proofs.ends.Tie as tie
 
 cell-at-requires : tie.Need-cell-at-requires
 cell-at-requires c κs = search needs

@@ -3,12 +3,12 @@ use native.Mathlib.Omega.{arith}
 use Rattle.cells.specs.Cells.{cellAt}
 use Rattle.layout.specs.Layout.{instrsCheck}
 use Rattle.utils.specs.Answers.{lent}
-use Rattle.generation.specs.Pass.{bodyOf}
-use Rattle.generation.proofs.Heads.{head-header, head-labels}
-use Rattle.generation.proofs.Running.{Surveying, none-surveyed, surveyed-few, surveyed-there, surveyed-more, surveyed-refused, surveyed-wrong, all-surveyed}
+use Rattle.bodies.specs.Body.{bodyOf}
+use Rattle.bodies.proofs.Heads.{head-header, head-labels}
+use Rattle.bodies.proofs.Running.{Surveying, none-surveyed, surveyed-few, surveyed-there, surveyed-more, surveyed-refused, surveyed-wrong, all-surveyed}
 use borrow.Author.Needs.{needs}
-use Rattle.generation.proofs.body.survey_body.Statement.{statement}
-use Rattle.generation.proofs.body.survey_body.Tie as tie
+use Rattle.bodies.proofs.survey_body.Statement.{statement}
+use Rattle.bodies.proofs.survey_body.Tie as tie
 
 abbrev Inv-loop : tie.InvT-loop
 Inv-loop tables offsets sheet labels ret left₀ here₀ i₀ made₀ last₀ left here i made last =

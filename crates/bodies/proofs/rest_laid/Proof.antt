@@ -1,7 +1,7 @@
 use mathlib.Core.Path.{refl}
 use borrow.Author.Needs.{needs}
-use Rattle.generation.proofs.body.rest_laid.Statement.{statement}
-use Rattle.generation.proofs.body.rest_laid.Tie as tie
+use Rattle.bodies.proofs.rest_laid.Statement.{statement}
+use Rattle.bodies.proofs.rest_laid.Tie as tie
 
 instrs-check-requires : tie.Need-instrs-check-requires
 instrs-check-requires c κs = search needs

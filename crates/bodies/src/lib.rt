@@ -21,10 +21,9 @@ ghost use Rattle.layout.specs.Layout.{instrsCheck};
 ghost use Rattle.x86.specs.declared.enums.Instruction.{Instruction};
 ghost use Rattle.codegen.specs.Generation.{accepted};
 ghost use Rattle.integers.specs.Integers.{Wrote};
-ghost use Rattle.generation.specs.Head.{headCheck};
+ghost use Rattle.bodies.specs.Head.{headCheck};
 ghost use Rattle.layout.specs.Layout.{Laid};
-ghost use Rattle.generation.specs.Pass.{bodyOf};
-ghost use Rattle.generation.specs.Survey.{Accepts, passedOf, surveyOf, madeIn};
+ghost use Rattle.bodies.specs.Body.{bodyOf, Accepts, passedOf, surveyOf, madeIn};
 
 // How many records the instructions make, and whether the last of them is Ret; or a refusal and the number of its instruction, from 1.
 pub enum Passed {

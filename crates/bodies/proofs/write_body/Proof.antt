@@ -1,10 +1,10 @@
 use native.Mathlib.Omega.{arith}
 use Rattle.utils.specs.Answers.{lent}
-use Rattle.generation.specs.Pass.{bodyOf}
+use Rattle.bodies.specs.Body.{bodyOf}
 use Rattle.layout.proofs.Walk.{has-header, has-params, walk-here, walk-few}
-use Rattle.generation.proofs.Running.{Writing, none-written, written-takes, written-few, written-more, all-written}
-use Rattle.generation.proofs.body.write_body.Statement.{statement}
-use Rattle.generation.proofs.body.write_body.Tie as tie
+use Rattle.bodies.proofs.Running.{Writing, none-written, written-takes, written-few, written-more, all-written}
+use Rattle.bodies.proofs.write_body.Statement.{statement}
+use Rattle.bodies.proofs.write_body.Tie as tie
 
 abbrev Inv-loop : tie.InvT-loop
 Inv-loop tables offsets sheet first out₀ labels ret left₀ cell₀ made₀ out left cell made =
