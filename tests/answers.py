@@ -52,11 +52,15 @@ def asked_faults(case):
 
 
 def choose(cases, count, most):
-    """The first and last of each refusal, then an even spread."""
-    small = [c for c in cases if len(c.tables) + len(c.sheet) <= most]
+    """The first and last of each refusal, or its two smallest where all are larger than `most`; then an even spread."""
+
+    def size(c):
+        return len(c.tables) + len(c.sheet)
+
+    small = [c for c in cases if size(c) <= most]
     chosen = {}
     for number in range(10):
-        of = [c for c in small if c.number == number]
+        of = [c for c in small if c.number == number] or sorted((c for c in cases if c.number == number), key=size)[:2]
         for c in of[:12] + of[-12:]:
             chosen[c.index] = c
     step = max(1, len(small) // max(1, count - len(chosen)))
