@@ -72,6 +72,7 @@ pub record Moves (tables : Tables) (F : Function) (o : ℕ → Choice) (s₀ : S
   pub few : to ≤ 5 + m
   pub calm : (j : ℕ) → m ≤ j → j < to → Steady tables F o s₀ j
   pub gain : (m < to) ⊎ (k ≡ suc k₀)
+  pub counts : place tables F (suc k₀) + m ≡ place tables F k₀ + to
   pub land : Land tables F o s₀ to k σ
 
 -- instruction k has the records b
@@ -125,6 +126,7 @@ module _ (tables : Tables) (F : Function) (h : Ready tables F) (o : ℕ → Choi
         few = omega arith;
         calm = steady l t;
         gain = inr refl;
+        counts = omega (arith, place-suc tables F k (e .at), ap length (e .is));
         land =
             landed (last (code tables F) o s₀ t ∙ ex) v (es ∙ t .going)
             (ep ∙ omega (arith, l .at, t .count, place-suc tables F k (e .at), ap length (e .is))) (open-behind tables F k (e .at) (e .is) er);

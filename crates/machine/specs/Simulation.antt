@@ -1,7 +1,7 @@
 -- Demand 3: what a run of the lowered list of a plain function does, as one claim about the whole run (01, "For demand 3").
 use Prim.Native.Nat.{ℕ, suc, _+_, _*_, _-_, _%_, _<_, _≤_}
 use mathlib.Core.Path.{_≡_}
-use mathlib.Core.Logic.{_↔_}
+use mathlib.Core.Logic.{_↔_, _⊎_}
 use mathlib.Core.Bool.{false, cond}
 use mathlib.Core.List.{List, [], _∷_, _++_}
 use mathlib.Core.Option.{some}
@@ -102,10 +102,22 @@ pub record Agrees (tables : Tables) (F : Function) (c : List Instruction) (s₀ 
   pub slots : (x i : ℕ) → x < length (F .vars) → i < sizeOf (F .vars) x → s .mem (slotByte (F .vars) (base s₀) x i) ≡ t .vals x i
   pub stands : Stands tables F c s₀ s t (t .status)
 
+-- the run keeps pace with F, step by step: after n steps of F, `at n` records have run to F's place
+pub record Follows (tables : Tables) (F : Function) (c : List Instruction) (o : ℕ → Choice) (s₀ : State) : Type 0 where
+  pub at : ℕ → ℕ
+  pub few : (n : ℕ) → at n ≤ 12 + 5 * n
+  pub onward : (n : ℕ) → at n ≤ at (suc n)
+  -- as long as F goes on, a step is the records of its instruction, all of them and no others: `at` grows wherever there are any
+  pub counts : (n : ℕ) → steps.run F (suc n) (start F s₀) .status ≡ steps.running
+      → place tables F (suc (steps.run F n (start F s₀) .next)) + at n ≡ place tables F (steps.run F n (start F s₀) .next) + at (suc n)
+  pub agrees : (n : ℕ) → Agrees tables F c s₀ (x86.run c o (at n) s₀) (steps.run F n (start F s₀))
+  -- every record of the run comes before F's place after some n steps, or F has ended by then: an F that runs for ever is followed for ever
+  pub passes : (m : ℕ) → (n : ℕ) × ((m ≤ at n) ⊎ ((at n ≤ m) × (steps.run F n (start F s₀) .status ≡ steps.running → ⊥)))
+
 -- `o` has what the manual leaves open
 pub record Simulates (tables : Tables) (F : Function) (c : List Instruction) (o : ℕ → Choice) (s₀ : State) : Type 0 where
   -- for every n, after n steps of F the records have run to F's place, at most 12 + 5n of them
-  pub follows : (n : ℕ) → (m : ℕ) × (m ≤ 12 + 5 * n) × Agrees tables F c s₀ (x86.run c o m s₀) (steps.run F n (start F s₀))
+  pub follows : Follows tables F c o s₀
   -- they fault exactly when F divides by zero
   pub faults :
       ((n : ℕ) × (steps.run F n (start F s₀) .status ≡ steps.faulted)) ↔ ((m : ℕ) × (x86.run c o m s₀ .status ≡ x86.faulted))
