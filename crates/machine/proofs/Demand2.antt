@@ -1,49 +1,124 @@
 -- Demand 2: the bytes that an accepted call leaves are a list that obeys the System V ABI.
-use Prim.Native.Nat.{ℕ, _<_, _≤_}
+use Prim.Native.Nat.{ℕ, zero, suc, _+_, _<_, _≤_}
 use mathlib.Core.Path.{_≡_, sym, ap, _∙_, subst}
-use mathlib.Core.List.{List}
-use lib.ListN.{length, getD}
+use mathlib.Core.Bool.{Bool, true, false, cond}
+use mathlib.Core.List.{List, [], _∷_, _++_, append-assoc, append-nil}
+use lib.ListN.{length, getD, drop, drop-of-length-le, List·getD-append}
+use lib.Seq.{drop-cons}
 use native.Mathlib.Omega.{arith}
+use Rattle.ir.specs.declared.VarId.{VarId}
 use Rattle.ir.specs.declared.Instr.{Instr}
-use Rattle.ir.specs.Function.{Function, Tables, tablesOf, functionOf}
+use Rattle.ir.specs.Function.{Function, Line, Tables, tablesOf, functionOf}
 use Rattle.x86.specs.declared.enums.Size.{Size}
 use Rattle.x86.specs.declared.enums.Operand.{Operand}
 use Rattle.x86.specs.declared.enums.BinOp.{BinOp}
 use Rattle.x86.specs.declared.enums.Instruction.{Instruction}
 use Rattle.x86.specs.Registers.{RSP}
-use Rattle.codegen.specs.Generation.{accepted, lowered, recordsAfter}
+use Rattle.codegen.specs.Instructions.{funcEpilogue}
+use Rattle.codegen.specs.Generation.{accepted, endsInRet, generateInstr, lowered, recordsAfter}
 use Rattle.machine.specs.Frames.{totalSize, frameSize}
-use Rattle.machine.specs.Calls.{InSlots, Obeys, Demand2}
-use Rattle.machine.proofs.Run.{All}
+use Rattle.machine.specs.Simulation.{contextFor, recordsOfLines, place}
+use Rattle.machine.specs.Calls.{Naming, InSlots, Names, NamesOne, noLine, noRecord, zeroing, Addressed, Obeys, Demand2}
+use Rattle.machine.proofs.Run.{All, cons-not-nil}
 use Rattle.machine.proofs.Slots.{framed}
 use Rattle.machine.proofs.Frame.{total-is, frame-is}
-use Rattle.machine.proofs.Accepted.{Accepted, code, accepted-list}
-use Rattle.machine.proofs.Generated.{Own}
-use Rattle.machine.proofs.Every.{all-at, code-all}
+use Rattle.machine.proofs.Accepted.{Accepted, records, front, whole, tail, code, accepted-list, nothing-left, place-zero, place-suc, place-drop, place-end, records-at}
+use Rattle.machine.proofs.Generated.{Own, sound-all, made-all, zeroing-is}
+use Rattle.machine.proofs.Lines.{line-made, front-made, stores, stores-sound}
+use Rattle.machine.proofs.Every.{all-at}
 use Rattle.machine.proofs.Kept.{code-is}
+use Rattle.machine.proofs.Plainness.{Meant, meant}
+use Rattle.machine.proofs.Inside.{params-inside, line-inside}
 use Rattle.machine.proofs.Obeys.{obeys}
-use Rattle.machine.proofs.Sheet.{small, generated, decodes}
+use Rattle.machine.proofs.Sheet.{small, generated, plain-all, decodes}
 
 -- ---- the list
 
-module _ (tables : Tables) (F : Function) (a : Accepted tables F) where
-  own-slots : (i : Instr) → Own (InSlots (F .vars)) i
-  own-slots (Instr.Copy d x) = tt
-  own-slots (Instr.Unary d op x) = tt
-  own-slots (Instr.Binary d op x y) = tt
-  own-slots (Instr.Cast d x) = tt
-  own-slots (Instr.Zero d) = tt
-  own-slots (Instr.Call d f count) = tt
-  own-slots (Instr.Label l) = tt
-  own-slots (Instr.Jump l) = tt
-  own-slots (Instr.JumpIfNot x l) = tt
-  own-slots (Instr.Return x) = tt
-  own-slots Instr.Comment = tt
+-- a record of a part of a list
+part-at : (P : Instruction → Type 0) (p : ℕ) (a b c : List Instruction) (j : ℕ) (d : Instruction) → drop p c ≡ a ++ b → All P a → p ≤ j → j < p + length a
+    → P (getD c j d)
+part-at P zero a b c j d e h k l =
+    subst P (sym (ap (λ (x : List Instruction). getD x j d) e ∙ List·getD-append a b d j (omega arith))) (all-at P a j d h (omega arith))
+part-at P (suc p) [] b [] j d e h k l = absurd (omega arith)
+part-at P (suc p) (i ∷ a) b [] j d e h k l = absurd (cons-not-nil (sym e))
+part-at P (suc p) a b (x ∷ c) zero d e h k l = absurd (omega arith)
+part-at P (suc p) a b (x ∷ c) (suc j) d e h k l = part-at P p a b c j d e h (omega arith) (omega arith)
 
-  code-slots : All (InSlots (F .vars)) (code tables F)
+module _ (tables : Tables) (F : Function) (a : Accepted tables F) where
+  own-slots : (N : Naming) (i : Instr) → Own (InSlots (F .vars) N) i
+  own-slots N (Instr.Copy d x) = tt
+  own-slots N (Instr.Unary d op x) = tt
+  own-slots N (Instr.Binary d op x y) = tt
+  own-slots N (Instr.Cast d x) = tt
+  own-slots N (Instr.Zero d) = tt
+  own-slots N (Instr.Call d f count) = tt
+  own-slots N (Instr.Label l) = tt
+  own-slots N (Instr.Jump l) = tt
+  own-slots N (Instr.JumpIfNot x l) = tt
+  own-slots N (Instr.Return x) = tt
+  own-slots N Instr.Comment = tt
+
+  epilogue-slots : (N : Naming) → All (InSlots (F .vars) N) funcEpilogue
+  epilogue-slots N = ((tt, tt), (tt, (tt, tt)))
+
+  line-slots : (k : ℕ) (l : Line) (r : List Line) → drop k (F .body) ≡ l ∷ r → All (InSlots (F .vars) (Names tables (l .instr) (l .args))) (records tables F l)
+  line-slots k l r d =
+      let N : Naming = Names tables (l .instr) (l .args) in
+      made-all (F .vars) N ⊥ (InSlots (F .vars) N) (λ i s. s .slots) (epilogue-slots N) (l .instr) (l .args) (records tables F l) (λ q. absurd q)
+      (own-slots N (l .instr)) (line-made tables F a ⊥ k l r (λ q. absurd q) d)
+
+  front-slots : All (InSlots (F .vars) (NamesOne (F .params))) (front tables F)
+  front-slots =
+      rw (front-made tables F a .is) (
+        tt,
+        (
+          (tt, tt),
+          (
+            (tt, tt),
+            sound-all (F .vars) (NamesOne (F .params)) ⊥ (InSlots (F .vars) (NamesOne (F .params))) (λ i s. s .slots) (stores tables F a)
+                (stores-sound tables F a ⊥),
+          ),
+        ),
+      )
+
+  tail-slots : All (InSlots (F .vars) (λ written v w. ⊥)) (tail tables F)
+  tail-slots = go (endsInRet (whole tables F))
+    where
+      go : (b : Bool) → All (InSlots (F .vars) (λ written v w. ⊥)) (cond b [] funcEpilogue)
+      go true = tt
+      go false = epilogue-slots (λ written v w. ⊥)
+
+  line-zeroes : (k : ℕ) (l : Line) (r : List Line) (d : VarId) → drop k (F .body) ≡ l ∷ r → l .instr ≡ Instr.Zero d → records tables F l ≡ zeroing (F .vars) d
+  unfolding generateInstr
+  line-zeroes k l r d e q =
+      zeroing-is tables (F .vars) (λ written v w. ⊥) ⊥ d .of (records tables F l)
+      (ap (λ (i : Instr). generateInstr (contextFor tables F) (F .labels) (F .ret) i (l .args)) (sym q) ∙ a .lines k l r e)
+
+  code-slots : Addressed tables F (code tables F)
+  unfolding code
   code-slots =
-      code-all tables F a ⊥ (λ q. absurd q) (InSlots (F .vars)) (λ i s. s .slots) ((tt, tt), (tt, (tt, tt))) (λ k l r d. own-slots (l .instr))
-      (tt, ((tt, tt), ((tt, tt), tt)))
+      record {
+        prologue = λ j h.
+            part-at (InSlots (F .vars) (NamesOne (F .params))) 0 (front tables F) _ (code tables F) j noRecord
+            (append-assoc (front tables F) (recordsOfLines tables F (F .body)) (tail tables F)) front-slots (omega arith)
+            (omega (arith, place-zero tables F));
+        line = λ k j h f g.
+            let l : Line = getD (F .body) k noLine in
+            let d : drop k (F .body) ≡ l ∷ drop (suc k) (F .body) = drop-cons (F .body) k noLine h in
+            part-at (InSlots (F .vars) (Names tables (l .instr) (l .args))) (place tables F k) (records tables F l) _ (code tables F) j noRecord
+            (records-at tables F k d) (line-slots k l (drop (suc k) (F .body)) d) f (omega (arith, place-suc tables F k d));
+        zeroes = λ k d h q.
+            let l : Line = getD (F .body) k noLine in
+            let e : drop k (F .body) ≡ l ∷ drop (suc k) (F .body) = drop-cons (F .body) k noLine h in
+            let r : List Instruction = recordsOfLines tables F (drop (suc k) (F .body)) ++ tail tables F in
+            (r, records-at tables F k e ∙ ap (λ (b : List Instruction). b ++ r) (line-zeroes k l (drop (suc k) (F .body)) d e q));
+        epilogue = λ j f g.
+            let e : recordsOfLines tables F (drop (length (F .body)) (F .body)) ≡ [] =
+            ap (recordsOfLines tables F) (drop-of-length-le (F .body) {i = length (F .body)} (omega arith)) ∙ nothing-left tables F in
+            part-at (InSlots (F .vars) (λ written v w. ⊥)) (place tables F (length (F .body))) (tail tables F) [] (code tables F) j noRecord
+            (place-drop tables F (length (F .body)) ∙ ap (λ (b : List Instruction). b ++ tail tables F) e ∙ sym (append-nil (tail tables F))) tail-slots f
+            (omega (arith, place-end tables F (length (F .body)) e));
+      }
 
   -- the third record makes the frame
   code-frame : getD (code tables F) 2 (Instruction.Label 0) ≡ Instruction.Binary BinOp.Sub (Operand.Reg RSP) (Operand.Imm (frameSize (F .vars))) Size.NoSize
@@ -65,7 +140,14 @@ demand2 tables sheet old is e =
       decoded = decodes tables sheet (length old) is e old;
       framed = framed (F .vars) total;
       frame = ap (λ (l : List Instruction). getD l 2 (Instruction.Label 0)) c ∙ code-frame T F a;
-      slots = subst (λ (l : List Instruction). (k : ℕ) → k < length l → InSlots (F .vars) (getD l k (Instruction.Label 0))) (sym c)
-          (λ k z. all-at (InSlots (F .vars)) (code T F) k (Instruction.Label 0) (code-slots T F a) z);
+      slots = subst (Addressed T F) (sym c) (code-slots T F a);
+      within = λ p.
+          let m : Meant F = meant F (plain-all tables sheet (length old) is e p) in
+          record {
+            prologue = params-inside T F (F .params) (m .params);
+            line = λ k h.
+                let l : Line = getD (F .body) k noLine in
+                line-inside T F (l .instr) (l .args) (m .lines k l (drop (suc k) (F .body)) (drop-cons (F .body) k noLine h));
+          };
       obeys = λ o s₀ h. subst (λ (l : List Instruction). Obeys T F l o s₀) (sym c) (obeys T F total a o s₀ h);
     }

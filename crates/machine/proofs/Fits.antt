@@ -93,6 +93,6 @@ own-fits Instr.Comment args h = tt
 pub code-fits : (tables : Tables) (F : Function) → totalSize (F .vars) ≤ 1048576 → Accepted tables F → SmallLines F → AllFit (code tables F)
 code-fits tables F small a lines =
     all-fit (code tables F)
-    (code-all tables F a (Unit {0}) (λ q. lines) Fits (λ i s. s .fits tt) ((lit< tt, lit< tt), (lit< tt, (tt, tt)))
+    (code-all tables F a (Unit {0}) (λ q. lines) Fits (λ N i s. s .fits tt) ((lit< tt, lit< tt), (lit< tt, (tt, tt)))
     (λ k l r d. own-fits (l .instr) (l .args) (lines k l r d))
     (lit< tt, ((lit< tt, lit< tt), ((lit< tt, omega (arith, frame-is (F .vars), frame-le (F .vars) small)), tt))))

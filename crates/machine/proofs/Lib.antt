@@ -35,5 +35,6 @@ pub mod Kept
 pub mod Callers
 pub mod Received
 pub mod Obeys
+pub mod Inside
 pub mod Demand2
 pub mod SignedOrder

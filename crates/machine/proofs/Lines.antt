@@ -9,6 +9,7 @@ use Rattle.codegen.specs.Frame.{frame}
 use Rattle.machine.specs.Machine.{Choice, State}
 use Rattle.machine.specs.Frames.{totalSize, frameSize}
 use Rattle.machine.specs.Simulation.{Entry, recordsOfLines}
+use Rattle.machine.specs.Calls.{Naming, Names, NamesOne}
 use Rattle.machine.proofs.Run.{All, all-append}
 use Rattle.machine.proofs.Frame.{frame-is}
 use Rattle.machine.proofs.Accepted.{Accepted, records, front, tail, code}
@@ -19,7 +20,7 @@ use Rattle.machine.proofs.Prologue.{Beginning, Begun, storing-sound, be
 module _ (tables : Tables) (F : Function) (a : Accepted tables F) where
   -- what each line's records are, whatever is known of its numbers
   pub line-made : (Q : Type 0) (k : ℕ) (l : Line) (r : List Line) → (Q → SmallInstr (l .instr) (l .args)) → drop k (F .body) ≡ l ∷ r
-      → Made (F .vars) Q (l .instr) (l .args) (records tables F l)
+      → Made (F .vars) (Names tables (l .instr) (l .args)) Q (l .instr) (l .args) (records tables F l)
   line-made Q k l r q d = made tables (F .vars) Q (F .labels) (F .ret) (l .instr) (l .args) q .of (records tables F l) (a .lines k l r d)
 
   pub front-made : Beginning (F .vars) (frame (F .vars)) (F .params) (front tables F)
@@ -33,10 +34,11 @@ module _ (tables : Tables) (F : Function) (a : Accepted tables F) where
   abbrev pub stores : List Instruction
   stores = front-made .words ++ front-made .floats
 
-  pub stores-sound : (Q : Type 0) → All (Sound (F .vars) Q) stores
+  pub stores-sound : (Q : Type 0) → All (Sound (F .vars) (NamesOne (F .params)) Q) stores
   stores-sound Q =
-      all-append (Sound (F .vars) Q) (front-made .words) (front-made .floats) (storing-sound (F .vars) Q (front-made .storing-words))
-      (storing-sound (F .vars) Q (front-made .storing-floats))
+      let N : Naming = NamesOne (F .params) in
+      all-append (Sound (F .vars) N Q) (front-made .words) (front-made .floats) (storing-sound (F .vars) N Q (λ v w z. z) (front-made .storing-words))
+      (storing-sound (F .vars) N Q (λ v w z. z) (front-made .storing-floats))
 
   pub front-begun : totalSize (F .vars) ≤ 1048576 → (o : ℕ → Choice) (s₀ : State) → Entry s₀
       → Begun (F .vars) (F .params) (code tables F) o s₀ (length (front tables F))

@@ -14,7 +14,7 @@ use Rattle.machine.specs.Machine as x86
 use Rattle.machine.specs.Machine.{Choice, State, run}
 use Rattle.machine.specs.Frames.{totalSize, frameSize}
 use Rattle.machine.specs.Simulation.{Entry, base, recordsOfLines, place}
-use Rattle.machine.specs.Calls.{Next, Aligned, Called, Entered, Obeys, Passed}
+use Rattle.machine.specs.Calls.{Naming, Names, Next, Aligned, Called, Entered, Obeys, Passed}
 use Rattle.machine.proofs.Run.{all-map, cons-not-nil, heads}
 use Rattle.machine.proofs.Slots.{frame-le}
 use Rattle.machine.proofs.Frame.{frame-is}
@@ -75,7 +75,9 @@ module _ (tables : Tables) (F : Function) (small : totalSize (F .vars) ≤ 10485
       let behind : List Instruction = recordsOfLines tables F (t .after) ++ tail tables F in
       let e : drop (place tables F (t .number)) c ≡ b ++ i ∷ (t .calling .store ++ behind) =
       records-at tables F (t .number) (t .is) ∙ ap (λ (l : List Instruction). l ++ behind) (t .calling .is) ∙ append-assoc b (i ∷ t .calling .store) behind in
-      let plains = all-map (Sound (F .vars) ⊥) Plain b (λ i s. s .plain) (loading-sound (F .vars) ⊥ (omega arith) (λ q. absurd q) (t .calling .loading)) in
+      let N : Naming = Names tables (t .line .instr) (t .line .args) in
+      let plains = all-map (Sound (F .vars) N ⊥) Plain b (λ i s. s .plain)
+      (loading-sound (F .vars) N ⊥ (omega arith) (t .calling .given) (λ q. absurd q) (t .calling .loading)) in
       let w = entered c o s₀ (h .first) b m (place tables F (t .number)) i (t .calling .store ++ behind) plains (λ l. refl) e g (t .at) in
       let k : ℕ = w .0 in
       let q : R (length b + k) ≡ R m = ap R (sym (w .1)) in

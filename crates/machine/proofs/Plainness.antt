@@ -43,6 +43,7 @@ plain-code P k e p₁ p₂ p₃ p₄ p₇ p₈ p₉ p₁₀ =
 
 -- what the lowering asks of a type that is no array
 pub record ScalarType (ty : IrType) : Type 0 where
+  pub scalar : isScalar ty ≡ true
   pub width : Width (bytes ty)
   pub sized : typeSize ty ≡ ok (bytes ty)
   pub whole : isFloat ty ≡ false
@@ -58,14 +59,14 @@ scalar-type ty e f =
     let z : scalar (ty .code) ≡ ty = λ i. record { code = ty .code; count = sym (eqb-true (ty .count) noArray e) i } in
     subst ScalarType z
     (plain-code (λ k. ScalarType (scalar k)) (ty .code) f
-    (record { width = eight; sized = refl; whole = refl; elf = refl; sign = refl })
-    (record { width = eight; sized = refl; whole = refl; elf = refl; sign = refl })
-    (record { width = four; sized = refl; whole = refl; elf = refl; sign = refl })
-    (record { width = four; sized = refl; whole = refl; elf = refl; sign = refl })
-    (record { width = one; sized = refl; whole = refl; elf = refl; sign = refl })
-    (record { width = one; sized = refl; whole = refl; elf = refl; sign = refl })
-    (record { width = one; sized = refl; whole = refl; elf = refl; sign = refl })
-    (record { width = eight; sized = refl; whole = refl; elf = refl; sign = refl }))
+    (record { scalar = refl; width = eight; sized = refl; whole = refl; elf = refl; sign = refl })
+    (record { scalar = refl; width = eight; sized = refl; whole = refl; elf = refl; sign = refl })
+    (record { scalar = refl; width = four; sized = refl; whole = refl; elf = refl; sign = refl })
+    (record { scalar = refl; width = four; sized = refl; whole = refl; elf = refl; sign = refl })
+    (record { scalar = refl; width = one; sized = refl; whole = refl; elf = refl; sign = refl })
+    (record { scalar = refl; width = one; sized = refl; whole = refl; elf = refl; sign = refl })
+    (record { scalar = refl; width = one; sized = refl; whole = refl; elf = refl; sign = refl })
+    (record { scalar = refl; width = eight; sized = refl; whole = refl; elf = refl; sign = refl }))
 
 -- every plain type has a width
 plain-size : (ty : IrType) → isPlainCode (ty .code) ≡ true → typeSize ty ≡ ok (bytes ty)

@@ -1,7 +1,7 @@
 -- The prologue: its first three records make the frame, and its stores put each parameter from its register into its slot.
 use Prim.Native.Nat.{ℕ, zero, suc, _+_, _*_, _-_, _%_, _<_, _≤_}
 use mathlib.Core.Path.{_≡_, refl, sym, ap, ap₂, _∙_, subst}
-use mathlib.Core.Logic.{⊎-elim}
+use mathlib.Core.Logic.{inl, inr, ⊎-elim}
 use mathlib.Core.Bool.{Bool, true, false, cond, _||_, Bool·beq, false≢true}
 use mathlib.Core.List.{List, [], _∷_, _++_, append-assoc}
 use lib.Dec.{eqb, ltb, lit<}
@@ -13,7 +13,7 @@ use borrow.Author.Tests.{ltb-true, ltb-false, lt-ltb, lt-leb, eqb-true}
 use Rattle.ir.specs.declared.«Type».{«Type» as IrType}
 use Rattle.ir.specs.declared.VarId.{VarId}
 use Rattle.ir.specs.Types as types
-use Rattle.ir.specs.Types.{isFloat, isScalar, elementWidth, typeSize}
+use Rattle.ir.specs.Types.{isFloat, isScalar, elementWidth}
 use Rattle.ir.specs.Function.{Tables}
 use Rattle.x86.specs.declared.register.Register.{Register}
 use Rattle.x86.specs.declared.enums.Size.{Size}
@@ -24,7 +24,6 @@ use Rattle.x86.specs.declared.enums.Instruction.{Instruction}
 use Rattle.x86.specs.Registers.{number, RAX, RSP, RBP, rbpPlus}
 use Rattle.x86.specs.Decode.{FitsRegister}
 use Rattle.codegen.specs.Context.{Context}
-use Rattle.codegen.specs.Utils.{sizeFrom, varSize}
 use Rattle.codegen.specs.Instructions.{move}
 use Rattle.codegen.specs.Frame.{registersOf, storeOf, storeParams, funcPrologue}
 use Rattle.machine.specs.Word.{W, bound, sign, store, above}
@@ -33,31 +32,17 @@ use Rattle.machine.specs.Machine.{Choice, State, running, exec, execBina
 use Rattle.machine.specs.Plain.{every}
 use Rattle.machine.specs.Frames.{totalSize, frameSize, sizeOf, slotOf}
 use Rattle.machine.specs.Simulation.{Entry, base, abiRegisters}
-use Rattle.machine.specs.Calls.{put, stored, parametersOf, abiFloatRegisters}
+use Rattle.machine.specs.Calls.{Naming, NamesOne, put, stored, parametersOf, abiFloatRegisters}
 use Rattle.machine.proofs.Tests.{both, every-at}
 use Rattle.machine.proofs.Sound.{Sound, into-slot}
 use Rattle.machine.proofs.Slots.{offset-le, off-outside, outside-saved, frame-le}
 use Rattle.machine.proofs.Numbers.{store-out, store-mod}
-use Rattle.codegen.proofs.Results.{Yields, yields, refuses, bind, weaken, choose}
+use Rattle.codegen.proofs.Results.{Yields, yields, bind, weaken, choose}
 use Rattle.machine.proofs.Run.{All, Known, Fit, all-append, fetch, drop-suc, le-or-lt}
 use Rattle.machine.proofs.Frame.{contextWith, var-at}
+use Rattle.machine.proofs.Generated.{var-size-is}
 
 -- ---- what the stores are
-
--- the size of a move of n bytes
-pub size-is : (n : ℕ) → Yields (sizeFrom n) (λ z. bytes z ≡ n)
-unfolding sizeFrom
-size-is n =
-    choose (eqb n 1) (λ e. yields (sym (eqb-true n 1 e)))
-    (λ _. choose (eqb n 2) (λ e. yields (sym (eqb-true n 2 e)))
-    (λ _. choose (eqb n 4) (λ e. yields (sym (eqb-true n 4 e)))
-    (λ _. choose (eqb n 8) (λ e. yields (sym (eqb-true n 8 e))) (λ _. refuses 6))))
-
-pub var-size-is : (v : VarId) → Yields (varSize v) (λ z. bytes z ≡ types.bytes (v .ty))
-unfolding varSize typeSize
-var-size-is v =
-    bind {P = λ n. n ≡ types.bytes (v .ty)} (choose (eqb (elementWidth (v .ty .code)) 0) (λ e. refuses 4) (λ e. yields refl))
-    (λ n e. subst (λ (m : ℕ). Yields (sizeFrom n) (λ z. bytes z ≡ m)) e (size-is n))
 
 -- the stores of the parameters that are floats, or of those that are not, the first of them of rank k
 pub data Storing (vars : List IrType) (float : Bool) : ℕ → List VarId → List Instruction → Type 0 where
@@ -89,12 +74,15 @@ pub record Beginning (vars : List IrType) (n : ℕ) (params : List VarId) (b : L
   pub storing-words : Storing vars false 0 params words
   pub storing-floats : Storing vars true 0 params floats
 
-pub storing-sound : (vars : List IrType) (Q : Type 0) {float : Bool} {k : ℕ} {ps : List VarId} {l : List Instruction} → Storing vars float k ps l
-    → All (Sound vars Q) l
-storing-sound vars Q (none k) = tt
-storing-sound vars Q (spent k p ps h) = tt
-storing-sound vars Q (other h t) = storing-sound vars Q t
-storing-sound vars Q {float} (puts {k} {p} z h hk hp hz t) = (into-slot vars Q (storeOf float) (p .id) _ z hp (fits float k hk), storing-sound vars Q t)
+pub storing-sound : (vars : List IrType) (N : Naming) (Q : Type 0) {float : Bool} {k : ℕ} {ps : List VarId} {l : List Instruction}
+    → ((v : VarId) (w : ℕ) → NamesOne ps true v w → N true v w) → Storing vars float k ps l → All (Sound vars N Q) l
+storing-sound vars N Q f (none k) = tt
+storing-sound vars N Q f (spent k p ps h) = tt
+storing-sound vars N Q f (other h t) = storing-sound vars N Q (λ v w z. f v w (inr z)) t
+storing-sound vars N Q {float} f (puts {k} {p} z h hk hp hz t) = (
+  into-slot vars N Q (storeOf float) p _ z (types.bytes (p .ty), f p (types.bytes (p .ty)) (inl (refl, refl)), omega arith) hp (fits float k hk),
+  storing-sound vars N Q (λ v w z. f v w (inr z)) t,
+)
 
 module _ (tables : Tables) (vars : List IrType) where
   abbrev ctx : Context
@@ -111,7 +99,7 @@ module _ (tables : Tables) (vars : List IrType) where
           choose (Bool·beq (isFloat (p .ty)) float)
           (λ e. choose (ltb k (length (registersOf float)))
           (λ h. bind (var-at tables vars p) (λ x a. bind (var-size-is p) (λ z q. bind u (λ l g.
-          yields (rw (a .1) (puts z e (ltb-true k (length (registersOf float)) h) (a .0) q g))))))
+          yields (rw (a .1) (puts z e (ltb-true k (length (registersOf float)) h) (a .0) (q .is) g))))))
           (λ h. yields (spent k p ps (ltb-false k (length (registersOf float)) h))))
           (λ e. weaken w (λ l g. other e g))
 

@@ -1,8 +1,9 @@
 -- Demand 2: what the System V ABI asks of every accepted list, with its floats and calls (01, the demands; System V ABI, 3.2.2 and 3.2.3).
-use Prim.Native.Nat.{ℕ, suc, _+_, _-_, _%_, _<_, _≤_}
+use Prim.Native.Nat.{ℕ, suc, _+_, _-_, _%_, _<_, _≤_, max}
 use mathlib.Core.Path.{_≡_}
+use mathlib.Core.Logic.{_⊎_}
 use mathlib.Core.Bool.{Bool, true, false, cond}
-use mathlib.Core.List.{List, [], _∷_}
+use mathlib.Core.List.{List, [], _∷_, _++_}
 use mathlib.Core.Option.{some}
 use lib.Dec.{eqb}
 use lib.ListN.{length, getD, drop}
@@ -12,51 +13,85 @@ use Rattle.ir.specs.declared.Operand.{Operand as IrOp}
 use Rattle.ir.specs.declared.Dest.{Dest}
 use Rattle.ir.specs.declared.Instr.{Instr}
 use Rattle.ir.specs.Types.{isFloat, isScalar, elementWidth, bytes}
-use Rattle.ir.specs.Function.{Function, Tables, tablesOf, functionOf}
+use Rattle.ir.specs.Function.{Function, Line, Tables, BinaryOp, binaryOp, tablesOf, functionOf}
 use Rattle.x86.specs.declared.mem_address.Base.{Base}
 use Rattle.x86.specs.declared.enums.Size.{Size}
 use Rattle.x86.specs.declared.enums.Operand.{Operand}
 use Rattle.x86.specs.declared.enums.BinOp.{BinOp}
+use Rattle.x86.specs.declared.enums.ConvOp.{ConvOp}
 use Rattle.x86.specs.declared.enums.CtrlOp.{CtrlOp}
+use Rattle.x86.specs.declared.enums.Prefix.{Prefix}
+use Rattle.x86.specs.declared.enums.StringOp.{StringOp}
 use Rattle.x86.specs.declared.enums.Instruction.{Instruction}
-use Rattle.x86.specs.Registers.{RSP}
+use Rattle.x86.specs.Registers.{RAX, RCX, RSP, RDI, rbpPlus}
 use Rattle.x86.specs.Decode.{decodeList}
 use Rattle.machine.specs.Word.{W, bound, store, load}
+use Rattle.machine.specs.Encodings as encodings
 use Rattle.machine.specs.Machine as x86
 use Rattle.machine.specs.Machine.{State, Choice}
-use Rattle.machine.specs.Frames.{frameSize, slotOf, sizeOf, Framed}
+use Rattle.machine.specs.Plain.{Plain}
+use Rattle.machine.specs.Frames.{frameSize, slotOf, slotByte, sizeOf, Framed}
 use Rattle.machine.specs.Simulation.{Entry, base, abiRegisters, place}
 
 -- ---- the frame in the list
 
--- an operand that is memory at RBP plus the displacement of a variable's slot, if it is memory behind RBP at all
-abbrev pub BehindRbp : List IrType → Base → ℕ → Type 0
-BehindRbp vars Base.Rbp d = (x : ℕ) × (x < length vars) × (d ≡ slotOf vars x)
-BehindRbp vars Base.String k = Unit {0}
-BehindRbp vars Base.Float k = Unit {0}
+-- which variables are taken, each with the number of its bytes
+abbrev pub Taking : Type 1
+Taking = VarId → ℕ → Type 0
 
-abbrev pub InSlot : List IrType → Operand → Type 0
-InSlot vars Operand.NoOperand = Unit {0}
-InSlot vars (Operand.Reg r) = Unit {0}
-InSlot vars (Operand.Imm v) = Unit {0}
-InSlot vars (Operand.Sym k) = Unit {0}
-InSlot vars (Operand.Label l) = Unit {0}
-InSlot vars (Operand.MemoryAddress a) = BehindRbp vars (a .base) (a .disp)
+-- those that records write, and those that they read or whose address they take
+abbrev pub Naming : Type 1
+Naming = Bool → Taking
 
--- every address behind RBP that a record has is a variable's slot
-abbrev pub InSlots : List IrType → Instruction → Type 0
-InSlots vars (Instruction.Binary op dst src size) = InSlot vars dst × InSlot vars src
-InSlots vars (Instruction.ComplexBinary op dst src size) = InSlot vars dst × InSlot vars src
-InSlots vars (Instruction.Convert op dst src size) = InSlot vars src
-InSlots vars (Instruction.Ctrl op target) = InSlot vars target
-InSlots vars (Instruction.Extend op dst src srcSize size) = InSlot vars src
-InSlots vars (Instruction.Lea src dst size) = InSlot vars src
-InSlots vars (Instruction.Label n) = Unit {0}
-InSlots vars (Instruction.Prefix prefix op size) = Unit {0}
-InSlots vars (Instruction.SetCC op dst) = InSlot vars dst
-InSlots vars (Instruction.Shift op dst src size) = InSlot vars dst × InSlot vars src
-InSlots vars (Instruction.Stack op value size) = InSlot vars value
-InSlots vars (Instruction.Unary op dst size) = InSlot vars dst
+-- memory at RBP plus d, of which a record touches n bytes, is the slot of a variable that is taken, and no more of it is touched than is taken
+pub record Slot (vars : List IrType) (N : Taking) (n d : ℕ) : Type 0 where
+  pub var : VarId
+  pub taken : ℕ
+  pub named : N var taken
+  pub entry : var .id < length vars
+  pub at : d ≡ slotOf vars (var .id)
+  pub few : n ≤ taken
+  -- where its entry has as many bytes as are taken, each byte that is touched, with RBP at b, is a byte of its slot
+  pub inside : (b i : ℕ) → taken ≤ sizeOf vars (var .id) → i < n → (i < sizeOf vars (var .id)) × (((b + d) % W + i) % W ≡ slotByte vars b (var .id) i)
+
+abbrev pub BehindRbp : List IrType → Taking → ℕ → Base → ℕ → Type 0
+BehindRbp vars N n Base.Rbp d = Slot vars N n d
+BehindRbp vars N n Base.String k = Unit {0}
+BehindRbp vars N n Base.Float k = Unit {0}
+
+-- an operand of which a record touches n bytes
+abbrev pub InSlot : List IrType → Taking → ℕ → Operand → Type 0
+InSlot vars N n Operand.NoOperand = Unit {0}
+InSlot vars N n (Operand.Reg r) = Unit {0}
+InSlot vars N n (Operand.Imm v) = Unit {0}
+InSlot vars N n (Operand.Sym k) = Unit {0}
+InSlot vars N n (Operand.Label l) = Unit {0}
+InSlot vars N n (Operand.MemoryAddress a) = BehindRbp vars N n (a .base) (a .disp)
+
+-- the bytes that a conversion of a size reads
+abbrev pub convertedBytes : ConvOp → ℕ → ℕ
+convertedBytes ConvOp.Cvtsd2ss n = 8
+convertedBytes ConvOp.Cvtsi2sd n = n
+convertedBytes ConvOp.Cvtsi2ss n = n
+convertedBytes ConvOp.Cvtss2sd n = 4
+convertedBytes ConvOp.Cvttsd2si n = 8
+convertedBytes ConvOp.Cvttss2si n = 4
+
+-- every address behind RBP that a record has is the slot of a variable that is named: as dst of one that is written, as src of one that is read; Lea
+-- takes the address and no byte (for Zero see `zeroing`)
+abbrev pub InSlots : List IrType → Naming → Instruction → Type 0
+InSlots vars N (Instruction.Binary op dst src size) = InSlot vars (N true) (encodings.bytes size) dst × InSlot vars (N false) (encodings.bytes size) src
+InSlots vars N (Instruction.ComplexBinary op dst src size) = InSlot vars (N true) (encodings.bytes size) dst × InSlot vars (N false) (encodings.bytes size) src
+InSlots vars N (Instruction.Convert op dst src size) = InSlot vars (N false) (convertedBytes op (encodings.bytes size)) src
+InSlots vars N (Instruction.Ctrl op target) = InSlot vars (N false) 8 target
+InSlots vars N (Instruction.Extend op dst src srcSize size) = InSlot vars (N false) (encodings.bytes srcSize) src
+InSlots vars N (Instruction.Lea src dst size) = InSlot vars (N false) 0 src
+InSlots vars N (Instruction.Label n) = Unit {0}
+InSlots vars N (Instruction.Prefix prefix op size) = Unit {0}
+InSlots vars N (Instruction.SetCC op dst) = InSlot vars (N true) 1 dst
+InSlots vars N (Instruction.Shift op dst src size) = InSlot vars (N true) (encodings.bytes size) dst × InSlot vars (N false) 1 src
+InSlots vars N (Instruction.Stack op value size) = InSlot vars (N true) 8 value
+InSlots vars N (Instruction.Unary op dst size) = InSlot vars (N true) (encodings.bytes size) dst
 
 -- ---- arguments
 
@@ -100,6 +135,136 @@ pub record Passed (vars : List IrType) (xs : List IrOp) (s s′ : State) : Type 
   pub few : (length (words xs) ≤ 6) × (length (floats xs) ≤ 8)
   pub count : s′ .regs 0 ≡ length (floats xs)
 
+-- ---- the variables that an instruction names
+
+-- a variable by its own bytes
+abbrev pub Whole : VarId → Taking
+Whole d v w = (v ≡ d) × (w ≡ bytes (d .ty))
+
+-- an operand by n bytes
+abbrev pub Takes : ℕ → IrOp → Taking
+Takes n (IrOp.Var u) v w = (v ≡ u) × (w ≡ n)
+Takes n (IrOp.Int k short unsigned) v w = ⊥
+Takes n (IrOp.Float k) v w = ⊥
+Takes n (IrOp.Bool b) v w = ⊥
+Takes n (IrOp.Address u) v w = ⊥
+Takes n (IrOp.DataAddress k) v w = ⊥
+Takes n IrOp.Null v w = ⊥
+
+-- the width of left, by which a comparison takes both sides
+abbrev pub comparedBytes : Tables → IrOp → ℕ
+comparedBytes tables (IrOp.Var u) = bytes (u .ty)
+comparedBytes tables (IrOp.Int k short unsigned) = cond short 4 8
+comparedBytes tables (IrOp.Float k) = cond (tables .short k) 4 8
+comparedBytes tables (IrOp.Bool b) = 1
+comparedBytes tables (IrOp.Address u) = 8
+comparedBytes tables (IrOp.DataAddress k) = 8
+comparedBytes tables IrOp.Null = 8
+
+-- by which an operation takes both sides: a comparison by left's width, any other by dest's
+abbrev pub binaryBytes : BinaryOp → ℕ → ℕ → ℕ
+binaryBytes BinaryOp.Or left dest = dest
+binaryBytes BinaryOp.And left dest = dest
+binaryBytes BinaryOp.BitOr left dest = dest
+binaryBytes BinaryOp.BitXor left dest = dest
+binaryBytes BinaryOp.BitAnd left dest = dest
+binaryBytes BinaryOp.Eq left dest = left
+binaryBytes BinaryOp.NotEq left dest = left
+binaryBytes BinaryOp.Lt left dest = left
+binaryBytes BinaryOp.Le left dest = left
+binaryBytes BinaryOp.Gt left dest = left
+binaryBytes BinaryOp.Ge left dest = left
+binaryBytes BinaryOp.Shl left dest = dest
+binaryBytes BinaryOp.Shr left dest = dest
+binaryBytes BinaryOp.Add left dest = dest
+binaryBytes BinaryOp.Sub left dest = dest
+binaryBytes BinaryOp.Mul left dest = dest
+binaryBytes BinaryOp.Div left dest = dest
+binaryBytes BinaryOp.Rem left dest = dest
+
+-- a cast takes its source by its own width, an array by four bytes at least
+abbrev pub castBytes : IrType → ℕ
+castBytes ty = cond (isScalar ty) (bytes ty) (max 4 (bytes ty))
+
+abbrev pub Casts : IrOp → Taking
+Casts (IrOp.Var u) v w = (v ≡ u) × (w ≡ castBytes (u .ty))
+Casts (IrOp.Int k short unsigned) v w = ⊥
+Casts (IrOp.Float k) v w = ⊥
+Casts (IrOp.Bool b) v w = ⊥
+Casts (IrOp.Address u) v w = ⊥
+Casts (IrOp.DataAddress k) v w = ⊥
+Casts IrOp.Null v w = ⊥
+
+-- an argument, and a Return's operand, by the bytes that are passed
+abbrev pub Passes : IrOp → Taking
+Passes (IrOp.Var u) v w = (v ≡ u) × (w ≡ passedBytes (u .ty))
+Passes (IrOp.Int k short unsigned) v w = ⊥
+Passes (IrOp.Float k) v w = ⊥
+Passes (IrOp.Bool b) v w = ⊥
+Passes (IrOp.Address u) v w = ⊥
+Passes (IrOp.DataAddress k) v w = ⊥
+Passes IrOp.Null v w = ⊥
+
+abbrev pub PassesOne : List IrOp → Taking
+PassesOne [] v w = ⊥
+PassesOne (x ∷ xs) v w = Passes x v w ⊎ PassesOne xs v w
+
+abbrev pub Result : Dest → Taking
+Result Dest.Nothing v w = ⊥
+Result (Dest.Var d) v w = Whole d v w
+
+-- dest is written, by its own bytes, so that what is stored lies in its slot where its own type is its entry's; operands are read as the instruction
+-- takes them
+abbrev pub Names : Tables → Instr → List IrOp → Naming
+Names tables (Instr.Copy d x) args true v w = Whole d v w
+Names tables (Instr.Copy d x) args false v w = Takes (bytes (d .ty)) x v w
+Names tables (Instr.Unary d op x) args true v w = Whole d v w
+Names tables (Instr.Unary d op x) args false v w = Takes (bytes (d .ty)) x v w
+Names tables (Instr.Binary d op x y) args true v w = Whole d v w
+Names tables (Instr.Binary d op x y) args false v w =
+    Takes (binaryBytes (binaryOp op) (comparedBytes tables x) (bytes (d .ty))) x v w
+    ⊎ Takes (binaryBytes (binaryOp op) (comparedBytes tables x) (bytes (d .ty))) y v w
+Names tables (Instr.Cast d x) args true v w = Whole d v w
+Names tables (Instr.Cast d x) args false v w = Casts x v w
+Names tables (Instr.Zero d) args written v w = Whole d v w
+Names tables (Instr.Call d f count) args true v w = Result d v w
+Names tables (Instr.Call d f count) args false v w = PassesOne args v w
+Names tables (Instr.Label l) args written v w = ⊥
+Names tables (Instr.Jump l) args written v w = ⊥
+Names tables (Instr.JumpIfNot x l) args true v w = ⊥
+Names tables (Instr.JumpIfNot x l) args false v w = Takes 1 x v w
+Names tables (Instr.Return x) args true v w = ⊥
+Names tables (Instr.Return x) args false v w = Passes x v w
+Names tables Instr.Comment args written v w = ⊥
+
+-- the prologue writes the parameters
+abbrev pub NamesOne : List VarId → Naming
+NamesOne [] written v w = ⊥
+NamesOne (p ∷ ps) true v w = Whole p v w ⊎ NamesOne ps true v w
+NamesOne (p ∷ ps) false v w = ⊥
+
+abbrev pub noLine : Line
+noLine = record { instr = Instr.Comment; args = [] }
+
+abbrev pub noRecord : Instruction
+noRecord = Instruction.Label 0
+
+-- Zero's records: Rep Stos has the address of dest's slot in RDI and the number of dest's own bytes in RCX
+abbrev pub zeroing : List IrType → VarId → List Instruction
+zeroing vars d =
+    Instruction.Lea (rbpPlus (slotOf vars (d .id))) RDI Size.NoSize ∷ Instruction.Binary BinOp.Mov (Operand.Reg RCX) (Operand.Imm (bytes (d .ty))) Size.U64
+    ∷ Instruction.Binary BinOp.Mov (Operand.Reg RAX) (Operand.Imm 0) Size.U64 ∷ Instruction.Prefix Prefix.Rep StringOp.Stos Size.U8 ∷ []
+
+-- in the prologue every address behind RBP is a parameter's slot; in the records of an instruction it is dest's where a record writes, and that of an
+-- operand where it reads; behind all instructions there is none
+pub record Addressed (tables : Tables) (F : Function) (c : List Instruction) : Type 0 where
+  pub prologue : (j : ℕ) → j < place tables F 0 → InSlots (F .vars) (NamesOne (F .params)) (getD c j noRecord)
+  pub line : (k j : ℕ) → k < length (F .body) → place tables F k ≤ j → j < place tables F (suc k)
+      → InSlots (F .vars) (Names tables (getD (F .body) k noLine .instr) (getD (F .body) k noLine .args)) (getD c j noRecord)
+  pub zeroes : (k : ℕ) (d : VarId) → k < length (F .body) → getD (F .body) k noLine .instr ≡ Instr.Zero d
+      → (r : List Instruction) × (drop (place tables F k) c ≡ zeroing (F .vars) d ++ r)
+  pub epilogue : (j : ℕ) → place tables F (length (F .body)) ≤ j → j < length c → InSlots (F .vars) (λ written v w. ⊥) (getD c j noRecord)
+
 -- ---- runs
 
 -- the run of c stands at s, running, and the records r are next
@@ -120,7 +285,7 @@ pub record Called (tables : Tables) (F : Function) (c : List Instruction) (o : �
   pub count : ℕ
   pub args : List IrOp
   pub within : number < length (F .body)
-  pub line : getD (F .body) number (record { instr = Instr.Comment; args = [] }) ≡ record { instr = Instr.Call dest f count; args = args }
+  pub line : getD (F .body) number noLine ≡ record { instr = Instr.Call dest f count; args = args }
   pub from : ℕ
   pub records : m ≡ length args + suc from
   pub running : x86.run c o from s₀ .status ≡ x86.running
@@ -195,6 +360,13 @@ pub record Obeys (tables : Tables) (F : Function) (c : List Instruction) (o : �
       → Called tables F c o s₀ m f
   pub entered : Entered tables F s₀ (x86.run c o (place tables F 0) s₀)
 
+-- what an instruction, and the prologue, takes of a variable is no more than its entry has: with `Slot.inside` no record touches a byte outside the
+-- slot that its address is
+pub record Within (tables : Tables) (F : Function) : Type 0 where
+  pub prologue : (written : Bool) (v : VarId) (w : ℕ) → NamesOne (F .params) written v w → w ≤ sizeOf (F .vars) (v .id)
+  pub line : (k : ℕ) → k < length (F .body) → (written : Bool) (v : VarId) (w : ℕ)
+      → Names tables (getD (F .body) k noLine .instr) (getD (F .body) k noLine .args) written v w → w ≤ sizeOf (F .vars) (v .id)
+
 -- of the list that the first n records of the bytes are
 pub record Demand2 (tables sheet records : List ℕ) (n : ℕ) : Type 0 where
   pub list : List Instruction
@@ -202,5 +374,6 @@ pub record Demand2 (tables sheet records : List ℕ) (n : ℕ) : Type 0 where
   pub framed : Framed (functionOf sheet .vars)
   -- the third record makes the frame
   pub frame : getD list 2 (Instruction.Label 0) ≡ Instruction.Binary BinOp.Sub (Operand.Reg RSP) (Operand.Imm (frameSize (functionOf sheet .vars))) Size.NoSize
-  pub slots : (k : ℕ) → k < length list → InSlots (functionOf sheet .vars) (getD list k (Instruction.Label 0))
+  pub slots : Addressed (tablesOf tables) (functionOf sheet) list
+  pub within : Plain tables sheet → Within (tablesOf tables) (functionOf sheet)
   pub obeys : (o : ℕ → Choice) (s₀ : State) → Entry s₀ → Obeys (tablesOf tables) (functionOf sheet) list o s₀
