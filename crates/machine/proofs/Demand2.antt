@@ -16,9 +16,10 @@ use Rattle.x86.specs.declared.enums.Instruction.{Instruction}
 use Rattle.x86.specs.Registers.{RSP}
 use Rattle.codegen.specs.Instructions.{funcEpilogue}
 use Rattle.codegen.specs.Generation.{accepted, endsInRet, generateInstr, lowered, recordsAfter}
+use Rattle.machine.specs.Machine.{run, pass}
 use Rattle.machine.specs.Frames.{totalSize, frameSize}
 use Rattle.machine.specs.Simulation.{contextFor, recordsOfLines, place}
-use Rattle.machine.specs.Calls.{Naming, InSlots, Names, NamesOne, noLine, noRecord, zeroing, Addressed, Obeys, Demand2}
+use Rattle.machine.specs.Calls.{Naming, InSlots, Names, NamesOne, noLine, noRecord, zeroing, Addressed, Obeys, HasAll, Demand2}
 use Rattle.machine.proofs.Run.{All, cons-not-nil}
 use Rattle.machine.proofs.Slots.{framed}
 use Rattle.machine.proofs.Frame.{total-is, frame-is}
@@ -29,7 +30,7 @@ use Rattle.machine.proofs.Every.{all-at}
 use Rattle.machine.proofs.Kept.{code-is}
 use Rattle.machine.proofs.Plainness.{Meant, meant}
 use Rattle.machine.proofs.Inside.{params-inside, line-inside}
-use Rattle.machine.proofs.Obeys.{obeys}
+use Rattle.machine.proofs.Obeys.{obeys, obeys-run}
 use Rattle.machine.proofs.Sheet.{small, generated, plain-all, decodes}
 
 -- ---- the list
@@ -149,5 +150,6 @@ demand2 tables sheet old is e =
                 let l : Line = getD (F .body) k noLine in
                 line-inside T F (l .instr) (l .args) (m .lines k l (drop (suc k) (F .body)) (drop-cons (F .body) k noLine h));
           };
-      obeys = λ o s₀ h. subst (λ (l : List Instruction). Obeys T F l o s₀) (sym c) (obeys T F total a o s₀ h);
+      obeys = λ o s₀ h. subst (λ (l : List Instruction). Obeys T F l (λ m. run l o m s₀) (λ a b. Unit {0}) s₀) (sym c) (obeys-run T F total a o s₀ h);
+      passes = λ o s₀ h. subst (λ (l : List Instruction). Obeys T F l (λ m. pass l o m s₀) (HasAll l (λ m. pass l o m s₀)) s₀) (sym c) (obeys T F total a o s₀ h);
     }

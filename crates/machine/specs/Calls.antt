@@ -278,8 +278,9 @@ pub record Aligned (vars : List IrType) (s₀ s : State) : Type 0 where
   pub bp : s .regs 5 ≡ base s₀
   pub upward : s .flags .df ≡ false
 
--- a Call record of the symbol f is reached only through the block of a Call instruction, whose records have put its arguments in place
-pub record Called (tables : Tables) (F : Function) (c : List Instruction) (o : ℕ → Choice) (s₀ : State) (m f : ℕ) : Type 0 where
+-- a Call record of the symbol f is reached only through the block of a Call instruction, whose records have put its arguments in place; R has the
+-- states of the run, and K says what is asked of its records from one number to another
+pub record Called (tables : Tables) (F : Function) (c : List Instruction) (R : ℕ → State) (K : ℕ → ℕ → Type 0) (m f : ℕ) : Type 0 where
   pub number : ℕ
   pub dest : Dest
   pub count : ℕ
@@ -288,9 +289,9 @@ pub record Called (tables : Tables) (F : Function) (c : List Instruction) (o : �
   pub line : getD (F .body) number noLine ≡ record { instr = Instr.Call dest f count; args = args }
   pub from : ℕ
   pub records : m ≡ length args + suc from
-  pub running : x86.run c o from s₀ .status ≡ x86.running
-  pub first : x86.run c o from s₀ .pos ≡ place tables F number
-  pub passed : Passed (F .vars) args (x86.run c o from s₀) (x86.run c o m s₀)
+  pub running : R from .status ≡ x86.running
+  pub first : R from .pos ≡ place tables F number
+  pub passed : K from m → Passed (F .vars) args (R from) (R m)
 
 -- ---- parameters
 
@@ -352,13 +353,15 @@ pub record Entered (tables : Tables) (F : Function) (s₀ s : State) : Type 0 wh
 
 -- ---- the claim
 
--- what every run of the list does, from an entry by the ABI
-pub record Obeys (tables : Tables) (F : Function) (c : List Instruction) (o : ℕ → Choice) (s₀ : State) : Type 0 where
-  pub aligned : (m f : ℕ) (r : List Instruction) → Next c (x86.run c o m s₀) (Instruction.Ctrl CtrlOp.Call (Operand.Sym f) ∷ r)
-      → Aligned (F .vars) s₀ (x86.run c o m s₀)
-  pub called : (m f : ℕ) (r : List Instruction) → Next c (x86.run c o m s₀) (Instruction.Ctrl CtrlOp.Call (Operand.Sym f) ∷ r)
-      → Called tables F c o s₀ m f
-  pub entered : Entered tables F s₀ (x86.run c o (place tables F 0) s₀)
+-- what a run of the list does, from an entry by the ABI
+pub record Obeys (tables : Tables) (F : Function) (c : List Instruction) (R : ℕ → State) (K : ℕ → ℕ → Type 0) (s₀ : State) : Type 0 where
+  pub aligned : (m f : ℕ) (r : List Instruction) → Next c (R m) (Instruction.Ctrl CtrlOp.Call (Operand.Sym f) ∷ r) → Aligned (F .vars) s₀ (R m)
+  pub called : (m f : ℕ) (r : List Instruction) → Next c (R m) (Instruction.Ctrl CtrlOp.Call (Operand.Sym f) ∷ r) → Called tables F c R K m f
+  pub entered : Entered tables F s₀ (R (place tables F 0))
+
+-- the manual has every record that the run R has run from number a to number b
+abbrev pub HasAll : List Instruction → (ℕ → State) → ℕ → ℕ → Type 0
+HasAll c R a b = (j : ℕ) → a ≤ j → j < b → encodings.known (getD c (R j .pos) noRecord) ≡ true
 
 -- what an instruction, and the prologue, takes of a variable is no more than its entry has: with `Slot.inside` no record touches a byte outside the
 -- slot that its address is
@@ -376,4 +379,8 @@ pub record Demand2 (tables sheet records : List ℕ) (n : ℕ) : Type 0 where
   pub frame : getD list 2 (Instruction.Label 0) ≡ Instruction.Binary BinOp.Sub (Operand.Reg RSP) (Operand.Imm (frameSize (functionOf sheet .vars))) Size.NoSize
   pub slots : Addressed (tablesOf tables) (functionOf sheet) list
   pub within : Plain tables sheet → Within (tablesOf tables) (functionOf sheet)
-  pub obeys : (o : ℕ → Choice) (s₀ : State) → Entry s₀ → Obeys (tablesOf tables) (functionOf sheet) list o s₀
+  -- every run, as far as it comes to no record that the manual does not have
+  pub obeys : (o : ℕ → Choice) (s₀ : State) → Entry s₀ → Obeys (tablesOf tables) (functionOf sheet) list (λ m. x86.run list o m s₀) (λ a b. Unit {0}) s₀
+  -- .. and whatever such records do, as long as they keep RSP, RBP and the direction flag; arguments that they bring are open
+  pub passes : (o : ℕ → Choice) (s₀ : State) → Entry s₀
+      → Obeys (tablesOf tables) (functionOf sheet) list (λ m. x86.pass list o m s₀) (HasAll list (λ m. x86.pass list o m s₀)) s₀

@@ -449,3 +449,29 @@ step c u s = stepOn c u (s .status) (drop (s .pos) c) s
 unfoldable pub run : List Instruction → (ℕ → Choice) → ℕ → State → State
 run c o zero s = s
 run c o (suc m) s = step c (o m) (run c o m s)
+
+-- ---- behind a record that the manual does not have
+
+-- such a record, as anything that goes on behind it and keeps RSP, RBP and the direction flag
+abbrev pub beyond : Choice → State → State
+beyond u s =
+    record {
+      regs = λ r. cond (eqb r 4 || eqb r 5) (s .regs r) (u .regs r);
+      mem = u .mem;
+      flags = undefinedFlags (u .flags) (s .flags);
+      links = s .links;
+      pos = suc (s .pos);
+      status = s .status;
+    }
+
+abbrev pub passOn : List Instruction → Choice → Status → List Instruction → State → State
+passOn c u running (i ∷ r) s = cond (known i) (exec c u i s) (beyond u s)
+passOn c u running [] s = withStatus undefined s
+passOn c u faulted r s = s
+passOn c u undefined r s = s
+passOn c u (returned a) r s = s
+
+-- the state after m records, where the run passes those that the manual does not have
+unfoldable pub pass : List Instruction → (ℕ → Choice) → ℕ → State → State
+pass c o zero s = s
+pass c o (suc m) s = let t = pass c o m s in passOn c (o m) (t .status) (drop (t .pos) c) t
