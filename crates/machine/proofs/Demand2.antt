@@ -17,7 +17,7 @@ use Rattle.x86.specs.Registers.{RSP}
 use Rattle.codegen.specs.Instructions.{funcEpilogue}
 use Rattle.codegen.specs.Generation.{accepted, endsInRet, generateInstr, lowered, recordsAfter}
 use Rattle.machine.specs.Machine.{run, pass}
-use Rattle.machine.specs.Frames.{totalSize, frameSize}
+use Rattle.machine.specs.Frames.{depth, frameSize}
 use Rattle.machine.specs.Simulation.{contextFor, recordsOfLines, place}
 use Rattle.machine.specs.Calls.{Naming, InSlots, Names, NamesOne, noLine, noRecord, zeroing, Addressed, Obeys, HasAll, Demand2}
 use Rattle.machine.proofs.Run.{All, cons-not-nil}
@@ -135,7 +135,7 @@ demand2 tables sheet old is e =
     let T : Tables = tablesOf tables in
     let F : Function = functionOf sheet in
     let (a, c) = accepted-list T F is (generated tables sheet (length old) is e) in
-    let total : totalSize (F .vars) ≤ 1048576 = omega (arith, small tables sheet (length old) is e, total-is (F .vars)) in
+    let total : depth (F .vars) ≤ 1048576 = omega (arith, small tables sheet (length old) is e, total-is (F .vars)) in
     record {
       list = is;
       decoded = decodes tables sheet (length old) is e old;

@@ -1,15 +1,14 @@
 -- The lowering's offsets, total and frame are the claims'; a variable's displacement is that of its slot.
-use Prim.Native.Nat.{ℕ, zero, suc, _+_, _<_}
+use Prim.Native.Nat.{ℕ, zero, suc, _<_}
 use mathlib.Core.Path.{_≡_, refl, ap, _∙_, subst}
 use mathlib.Core.List.{List, [], _∷_}
 use lib.Dec.{ltb}
 use lib.ListN.{length, getD}
-use native.Mathlib.Nat.{not-suc-le-zero, le-of-suc-le-suc, zero-add}
-use native.Mathlib.Omega.{arith}
+use native.Mathlib.Nat.{not-suc-le-zero, le-of-suc-le-suc}
 use borrow.Author.Tests.{lt-ltb, ltb-true}
 use Rattle.cells.specs.Cells.{minus}
 use Rattle.ir.specs.declared.«Type».{«Type» as IrType}
-use Rattle.ir.specs.Types.{bytes, ok, lastOffset}
+use Rattle.ir.specs.Types.{ok, offsetBehind, lastOffset}
 use Rattle.ir.specs.Function.{Tables}
 use Rattle.ir.specs.declared.VarId.{VarId}
 use Rattle.x86.specs.declared.enums.Operand.{Operand}
@@ -17,17 +16,21 @@ use Rattle.x86.specs.Registers.{rbpPlus}
 use Rattle.codegen.specs.Context.{Context, contextOf, displacement}
 use Rattle.codegen.specs.Utils.{convertVar}
 use Rattle.codegen.specs.Frame.{offsetsFrom, frame}
-use Rattle.machine.specs.Frames.{offset, totalSize, frameSize, slotOf}
+use Rattle.machine.specs.Frames.{behind, offsetFrom, depthFrom, depth, frameSize, slotOf}
 use Rattle.codegen.proofs.Results.{Yields, yields, bind, guard}
 
-pub last-total : (end : ℕ) (vars : List IrType) → lastOffset end vars ≡ end + totalSize vars
-unfolding lastOffset totalSize
-last-total end [] = omega arith
-last-total end (t ∷ ts) = last-total (end + bytes t) ts ∙ omega arith
+-- one step of the lowering is one of the claims
+pub behind-is : (end : ℕ) (t : IrType) → offsetBehind end t ≡ behind end t
+behind-is end t = refl
 
--- the total that the lowering takes is the claims'
-pub total-is : (vars : List IrType) → lastOffset 0 vars ≡ totalSize vars
-total-is vars = last-total 0 vars ∙ zero-add (totalSize vars)
+last-is : (end : ℕ) (vars : List IrType) → lastOffset end vars ≡ depthFrom end vars
+unfolding lastOffset depthFrom
+last-is end [] = refl
+last-is end (t ∷ ts) = ap (λ (n : ℕ). lastOffset n ts) (behind-is end t) ∙ last-is (behind end t) ts
+
+-- the last offset that the lowering takes is the claims'
+pub total-is : (vars : List IrType) → lastOffset 0 vars ≡ depth vars
+total-is vars = last-is 0 vars
 
 pub frame-is : (vars : List IrType) → frame vars ≡ frameSize vars
 frame-is vars = rw total-is
@@ -35,16 +38,17 @@ frame-is vars = rw total-is
 pub offsets-length : (end : ℕ) (vars : List IrType) → length (offsetsFrom end vars) ≡ length vars
 unfolding offsetsFrom
 offsets-length end [] = refl
-offsets-length end (t ∷ ts) = ap suc (offsets-length (end + bytes t) ts)
+offsets-length end (t ∷ ts) = ap suc (offsets-length (offsetBehind end t) ts)
 
-offset-is : (end : ℕ) (vars : List IrType) (x : ℕ) → x < length vars → getD (offsetsFrom end vars) x 0 ≡ end + offset vars x
-unfolding offsetsFrom offset
+offset-is : (end : ℕ) (vars : List IrType) (x : ℕ) → x < length vars → getD (offsetsFrom end vars) x 0 ≡ offsetFrom end vars x
+unfolding offsetsFrom offsetFrom
 offset-is end [] x h = absurd (not-suc-le-zero h)
-offset-is end (t ∷ ts) zero h = refl
-offset-is end (t ∷ ts) (suc x) h = offset-is (end + bytes t) ts x (le-of-suc-le-suc h) ∙ omega arith
+offset-is end (t ∷ ts) zero h = behind-is end t
+offset-is end (t ∷ ts) (suc x) h =
+    ap (λ (n : ℕ). getD (offsetsFrom n ts) x 0) (behind-is end t) ∙ offset-is (behind end t) ts x (le-of-suc-le-suc h)
 
 pub minus-is : (vars : List IrType) (x : ℕ) → x < length vars → minus (getD (offsetsFrom 0 vars) x 0) ≡ slotOf vars x
-minus-is vars x h = rw (offset-is 0 vars x h, zero-add)
+minus-is vars x h = rw (offset-is 0 vars x h)
 
 -- what operands are looked up in
 abbrev pub contextWith : Tables → List IrType → Context

@@ -30,7 +30,7 @@ use Rattle.codegen.specs.Generation.{endsInRet}
 use Rattle.machine.specs.Word.{W}
 use Rattle.machine.specs.Encodings.{known, isNear, isPlaced, isSized, isGeneralOperand, isGeneralForm, isBinary}
 use Rattle.machine.specs.Steps.{width, isSignedType}
-use Rattle.machine.specs.Frames.{totalSize, slotOf}
+use Rattle.machine.specs.Frames.{depth, slotOf}
 use Rattle.machine.specs.Simulation.{recordsOfLines}
 use Rattle.machine.proofs.Run.{Known, Fit, all-append}
 use Rattle.machine.proofs.Accepted.{Accepted, records, front, whole, tail, code}
@@ -84,7 +84,7 @@ one-known eight = refl
 
 -- ---- a plain function's
 
-module _ (F : Function) (small : totalSize (F .vars) ≤ 1048576) where
+module _ (F : Function) (small : depth (F .vars) ≤ 1048576) where
   slot-near : (v : VarId) → v .id < length (F .vars) → isNear (slotOf (F .vars) (v .id)) ≡ true
   slot-near v h = near-slot (F .vars) small (v .id) h
 
@@ -253,7 +253,7 @@ pub epilogue-known : Fit funcEpilogue
 unfolding known
 epilogue-known = (refl, (refl, (refl, tt)))
 
-module _ (tables : Tables) (F : Function) (small : totalSize (F .vars) ≤ 1048576) (a : Accepted tables F) (m : Meant F) where
+module _ (tables : Tables) (F : Function) (small : depth (F .vars) ≤ 1048576) (a : Accepted tables F) (m : Meant F) where
   lines-known : (ls : List Line) → ((k : ℕ) (l : Line) (r : List Line) → drop k ls ≡ l ∷ r → Fit (records tables F l)) → Fit (recordsOfLines tables F ls)
   unfolding recordsOfLines
   lines-known [] h = tt

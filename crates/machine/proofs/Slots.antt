@@ -10,31 +10,49 @@ use native.Mathlib.Nat.{not-suc-le-zero, le-of-suc-le-suc}
 use native.Mathlib.Omega.{arith}
 use borrow.Author.Tests.{eqb-true, eqb-false, lt-ltb, ltb-true, ltb-false}
 use Rattle.ir.specs.declared.«Type».{«Type» as IrType}
+use Rattle.ir.specs.Types.{bytes}
 use Rattle.machine.specs.Word.{W, bound, byte, above, store}
 use Rattle.machine.specs.Steps.{Values, put}
-use Rattle.machine.specs.Frames.{offset, totalSize, sizeOf, frameSize, slotOf, slotByte, Framed}
+use Rattle.machine.specs.Frames.{behind, offsetFrom, depthFrom, offset, depth, sizeOf, frameSize, slotOf, slotByte, Framed}
 use Rattle.machine.proofs.Numbers.{byte-mod, above-up, above-down, address-add, store-in, store-out, above-at}
 
--- ---- offsets
+-- ---- offsets: all that follows of them rests on one law of one step
 
-pub offset-le : (ts : List IrType) (x : ℕ) → x < length ts → offset ts x ≤ totalSize ts
-unfolding offset totalSize
-offset-le [] x h = absurd (not-suc-le-zero h)
-offset-le (t ∷ ts) zero h = omega arith
-offset-le (t ∷ ts) (suc x) h = omega (arith, offset-le ts x (le-of-suc-le-suc h))
+grows : (end : ℕ) (t : IrType) → end + bytes t ≤ behind end t
+grows end t = omega arith
+
+depth-grows : (end : ℕ) (ts : List IrType) → end ≤ depthFrom end ts
+unfolding depthFrom
+depth-grows end [] = omega arith
+depth-grows end (t ∷ ts) = omega (arith, grows end t, depth-grows (behind end t) ts)
+
+offset-from-le : (end : ℕ) (ts : List IrType) (x : ℕ) → x < length ts → offsetFrom end ts x ≤ depthFrom end ts
+unfolding offsetFrom depthFrom
+offset-from-le end [] x h = absurd (not-suc-le-zero h)
+offset-from-le end (t ∷ ts) zero h = depth-grows (behind end t) ts
+offset-from-le end (t ∷ ts) (suc x) h = offset-from-le (behind end t) ts x (le-of-suc-le-suc h)
+
+size-from-le : (end : ℕ) (ts : List IrType) (x : ℕ) → x < length ts → end + sizeOf ts x ≤ offsetFrom end ts x
+unfolding offsetFrom
+size-from-le end [] x h = absurd (not-suc-le-zero h)
+size-from-le end (t ∷ ts) zero h = grows end t
+size-from-le end (t ∷ ts) (suc x) h = omega (arith, grows end t, size-from-le (behind end t) ts x (le-of-suc-le-suc h))
+
+from-apart : (end : ℕ) (ts : List IrType) (x y : ℕ) → x < y → y < length ts → offsetFrom end ts x + sizeOf ts y ≤ offsetFrom end ts y
+unfolding offsetFrom
+from-apart end [] x y h k = absurd (not-suc-le-zero k)
+from-apart end (t ∷ ts) x zero h k = absurd (not-suc-le-zero h)
+from-apart end (t ∷ ts) zero (suc y) h k = size-from-le (behind end t) ts y (le-of-suc-le-suc k)
+from-apart end (t ∷ ts) (suc x) (suc y) h k = from-apart (behind end t) ts x y (le-of-suc-le-suc h) (le-of-suc-le-suc k)
+
+pub offset-le : (ts : List IrType) (x : ℕ) → x < length ts → offset ts x ≤ depth ts
+offset-le ts x h = offset-from-le 0 ts x h
 
 pub size-le : (ts : List IrType) (x : ℕ) → x < length ts → sizeOf ts x ≤ offset ts x
-unfolding offset
-size-le [] x h = absurd (not-suc-le-zero h)
-size-le (t ∷ ts) zero h = omega arith
-size-le (t ∷ ts) (suc x) h = omega (arith, size-le ts x (le-of-suc-le-suc h))
+size-le ts x h = omega (arith, size-from-le 0 ts x h)
 
 offset-apart : (ts : List IrType) (x y : ℕ) → x < y → y < length ts → offset ts x + sizeOf ts y ≤ offset ts y
-unfolding offset
-offset-apart [] x y h k = absurd (not-suc-le-zero k)
-offset-apart (t ∷ ts) x zero h k = absurd (not-suc-le-zero h)
-offset-apart (t ∷ ts) zero (suc y) h k = omega (arith, size-le ts y (le-of-suc-le-suc k))
-offset-apart (t ∷ ts) (suc x) (suc y) h k = omega (arith, offset-apart ts x y (le-of-suc-le-suc h) (le-of-suc-le-suc k))
+offset-apart ts x y h k = from-apart 0 ts x y h k
 
 -- ---- addresses beside the frame
 
@@ -69,7 +87,7 @@ put-mod σ x n v = fun-ext (λ y. fun-ext (λ i. go y i (eqb y x) (ltb i n) refl
 
 -- ---- slots
 
-module _ (vars : List IrType) (small : totalSize vars ≤ 1048576) where
+module _ (vars : List IrType) (small : depth vars ≤ 1048576) where
   -- where a variable's bytes lie, counted round from the frame's end
   abbrev down : ℕ → ℕ
   down x = W - offset vars x
@@ -140,14 +158,14 @@ module _ (vars : List IrType) (small : totalSize vars ≤ 1048576) where
     where
       inside : (b x i : ℕ) → b < W → x < length vars → i < sizeOf vars x → above ((b + (W - frameSize vars)) % W) (slotByte vars b x i) < frameSize vars
       inside b x i hb hx hi =
-          let h : offset vars x ≤ totalSize vars = offset-le vars x hx in
+          let h : offset vars x ≤ depth vars = offset-le vars x hx in
           let k : sizeOf vars x ≤ offset vars x = size-le vars x hx in
           rw (at b x i, above-up b (W - frameSize vars) (down x + i) (omega arith) (omega arith)) (omega arith)
 
       below : (b x y i j : ℕ) → b < W → x < y → y < length vars → i < sizeOf vars x → j < sizeOf vars y → slotByte vars b x i ≡ slotByte vars b y j → ⊥
       below b x y i j hb h hy hi hj e =
           let k : offset vars x + sizeOf vars y ≤ offset vars y = offset-apart vars x y h hy in
-          let w : offset vars y ≤ totalSize vars = offset-le vars y hy in
+          let w : offset vars y ≤ depth vars = offset-le vars y hy in
           let v : sizeOf vars x ≤ offset vars x = size-le vars x (omega arith) in
           let u : sizeOf vars y ≤ offset vars y = size-le vars y hy in
           let p : down x + i ≡ down y + j =

@@ -8,22 +8,33 @@ use Rattle.ir.specs.Types.{bytes}
 use Rattle.machine.specs.Word.{W, above}
 use Rattle.machine.specs.Plain.{noType}
 
--- a variable's offset: the total of the sizes in sheet order, its own included
-unfoldable pub offset : List IrType → ℕ → ℕ
-offset [] x = 0
-offset (t ∷ ts) zero = bytes t
-offset (t ∷ ts) (suc x) = bytes t + offset ts x
+-- a variable's offset, where that of the one before it is `end`: the total of the sizes in sheet order, its own included
+abbrev pub behind : ℕ → IrType → ℕ
+behind end t = end + bytes t
 
-unfoldable pub totalSize : List IrType → ℕ
-totalSize [] = 0
-totalSize (t ∷ ts) = bytes t + totalSize ts
+-- the offset of variable x of those behind `end`
+unfoldable pub offsetFrom : ℕ → List IrType → ℕ → ℕ
+offsetFrom end [] x = end
+offsetFrom end (t ∷ ts) zero = behind end t
+offsetFrom end (t ∷ ts) (suc x) = offsetFrom (behind end t) ts x
+
+-- the last offset of those behind `end`
+unfoldable pub depthFrom : ℕ → List IrType → ℕ
+depthFrom end [] = end
+depthFrom end (t ∷ ts) = depthFrom (behind end t) ts
+
+abbrev pub offset : List IrType → ℕ → ℕ
+offset vars x = offsetFrom 0 vars x
+
+abbrev pub depth : List IrType → ℕ
+depth vars = depthFrom 0 vars
 
 abbrev pub sizeOf : List IrType → ℕ → ℕ
 sizeOf vars x = bytes (getD vars x noType)
 
--- the least multiple of 16 not below the total
+-- the least multiple of 16 not below the last offset
 abbrev pub frameSize : List IrType → ℕ
-frameSize vars = (totalSize vars + 15) / 16 * 16
+frameSize vars = (depth vars + 15) / 16 * 16
 
 -- the displacement of variable x from RBP, as a pattern: minus its offset
 abbrev pub slotOf : List IrType → ℕ → ℕ
@@ -34,10 +45,10 @@ abbrev pub slotByte : List IrType → ℕ → ℕ → ℕ → ℕ
 slotByte vars b x i = ((b + slotOf vars x) % W + i) % W
 
 pub record Framed (vars : List IrType) : Type 0 where
-  -- the frame is the least multiple of 16 not below the total
+  -- the frame is the least multiple of 16 not below the last offset
   pub multiple : frameSize vars % 16 ≡ 0
-  pub enough : totalSize vars ≤ frameSize vars
-  pub least : (n : ℕ) → n % 16 ≡ 0 → totalSize vars ≤ n → frameSize vars ≤ n
+  pub enough : depth vars ≤ frameSize vars
+  pub least : (n : ℕ) → n % 16 ≡ 0 → depth vars ≤ n → frameSize vars ≤ n
   -- every byte of a slot lies in the frame, wherever that ends, and belongs to one slot
   pub inside : (b x i : ℕ) → b < W → x < length vars → i < sizeOf vars x → above ((b + (W - frameSize vars)) % W) (slotByte vars b x i) < frameSize vars
   pub apart : (b x y i j : ℕ) → b < W → x < length vars → y < length vars → i < sizeOf vars x → j < sizeOf vars y
