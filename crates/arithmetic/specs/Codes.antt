@@ -1,10 +1,10 @@
--- The condition code of a comparison.
+-- Auxiliary: the condition code of a comparison by its operation's number, equal to the one in codegen's `integerBinary` by `comparing` (proofs/Numbers).
 use Prim.Native.Nat.{ℕ}
 use mathlib.Core.Bool.{cond}
 use lib.Dec.{eqb}
 use Rattle.x86.specs.declared.enums.ConditionCode.{ConditionCode}
 
--- by its operation's number: Eq 5, NotEq 6, Lt 7, Le 8, Gt 9, Ge 10 (01, "The form each place needs")
+-- Eq 5, NotEq 6, Lt 7, Le 8, Gt 9, Ge 10 (01, "The form each place needs")
 unfoldable pub comparisonCode : ℕ → ConditionCode
 comparisonCode op =
     cond (eqb op 5) ConditionCode.E (cond (eqb op 6) ConditionCode.NE (cond (eqb op 7) ConditionCode.L (cond (eqb op 8) ConditionCode.LE

@@ -1,25 +1,21 @@
-// Krc's codegen/arithmetic.rs: the choice of a binary operation's list maker, and unary operations.
+// Krc's codegen/arithmetic.rs: `generate_binary`, the choice over the eighteen binary operations, and `generate_unary`.
 use comparisons::comparison;
-use instructions::binary;
-use instructions::mov;
-use ir::Operand as IrOp;
 use ir::Type;
 use ir::UnaryOp as IrUnary;
-use ir::VarId;
+use ir::read::type_at;
 use operations::division;
 use operations::float_operation;
 use operations::multiplication;
 use operations::shift;
 use operations::simple_operation;
-use records::Records;
-use records::four;
-use records::three;
-use utils::Loaded;
-use utils::Placed;
-use utils::Sized;
-use utils::convert_var;
-use utils::load_operand;
-use utils::var_size;
+use utils::CountResult;
+use utils::OperandResult;
+use utils::SizeResult;
+use utils::convert_var_at;
+use utils::mov;
+use utils::put_load;
+use utils::source_at;
+use utils::var_size_at;
 use x86::enums::BinOp;
 use x86::enums::ConditionCode;
 use x86::enums::Instruction;
@@ -27,34 +23,43 @@ use x86::enums::Operand;
 use x86::enums::ShiftOp;
 use x86::enums::Size;
 use x86::enums::UnaryOp;
+use x86::record::put_instruction;
 use x86::register::Register;
 ghost use mathlib.Core.Path.{_≡_};
 ghost use mathlib.Core.Bool.{cond};
+ghost use Prim.Native.Nat.{_+_, _≤_};
+ghost use lib.ListN.{length};
+ghost use Rattle.cells.specs.Cells.{cells, write};
 ghost use Rattle.ir.specs.Types.{isUnsigned};
-ghost use Rattle.ir.specs.Function.{binaryOp};
-ghost use Rattle.x86.specs.Registers.{RAX};
-ghost use Rattle.codegen.specs.Arithmetic.{floatBinary, generateBinary, signBit, generateUnary};
+ghost use Rattle.ir.specs.Function.{varAt, operandAt, binaryOp};
+ghost use Rattle.x86.specs.Records.{listBytes};
+ghost use Rattle.codegen.specs.Arithmetic.{floatBinary, integerBinary, generateBinary, signBit, generateUnary};
 ghost use Rattle.utils.specs.Answers.{lent};
-ghost use Rattle.records.specs.Records.{recordsSay, encoded};
+ghost use Rattle.utils.specs.Makes.{Makes, Ready};
 ghost use Rattle.arithmetic.specs.Codes.{comparisonCode};
+ghost use Rattle.arithmetic.specs.Unary.{changedSays, lookUnary, changedOf, signOf, unaryRecord, isNegation, flipsSign};
 
 // Only + - * / are done on a float.
 fn float_binary(
     tables: &[u8],
     offsets: &[u64],
-    dest: VarId,
+    s: &[u8],
+    k: usize,
     op: u64,
-    left: IrOp,
-    right: IrOp,
-) -> Records
-    ensures { λ r. ⌜ recordsSay r ≡ encoded (floatBinary (lent (now (tables .entry)) (now (offsets .entry))) dest (binaryOp op) left right) ⌝ }
+    out: &mut [u8],
+    at: usize,
+    write: bool,
+) -> CountResult
+    requires { ⌜ k + 13 ≤ cells (now s) ⌝ }
+    requires { ⌜ Ready write (floatBinary (lent (now tables) (now offsets)) (varAt (now s) (k + 2)) (binaryOp op) (operandAt (now s) (k + 5)) (operandAt (now s) (k + 9))) at (length (now out)) ⌝ }
+    ensures { λ r. ⌜ Makes write (floatBinary (lent (now (tables .entry)) (now (offsets .entry))) (varAt (now (s .entry)) (k + 2)) (binaryOp op) (operandAt (now (s .entry)) (k + 5)) (operandAt (now (s .entry)) (k + 9))) at (now (out .entry)) (now (out .exit)) r ⌝ }
 {
     match op {
-        13 => float_operation(tables, offsets, dest, left, right, BinOp::AddF),
-        14 => float_operation(tables, offsets, dest, left, right, BinOp::SubF),
-        15 => float_operation(tables, offsets, dest, left, right, BinOp::MulF),
-        16 => float_operation(tables, offsets, dest, left, right, BinOp::DivF),
-        _ => Records::Refused(7),
+        13 => float_operation(tables, offsets, s, k, BinOp::AddF, out, at, write),
+        14 => float_operation(tables, offsets, s, k, BinOp::SubF, out, at, write),
+        15 => float_operation(tables, offsets, s, k, BinOp::MulF, out, at, write),
+        16 => float_operation(tables, offsets, s, k, BinOp::DivF, out, at, write),
+        _ => CountResult::Refused(7),
     }
 }
 
@@ -83,34 +88,94 @@ fn right_shift(ty: Type) -> ShiftOp
     }
 }
 
+fn integer_binary(
+    tables: &[u8],
+    offsets: &[u64],
+    s: &[u8],
+    k: usize,
+    op: u64,
+    out: &mut [u8],
+    at: usize,
+    write: bool,
+) -> CountResult
+    requires { ⌜ k + 13 ≤ cells (now s) ⌝ }
+    requires { ⌜ Ready write (integerBinary (lent (now tables) (now offsets)) (varAt (now s) (k + 2)) (binaryOp op) (operandAt (now s) (k + 5)) (operandAt (now s) (k + 9))) at (length (now out)) ⌝ }
+    ensures { λ r. ⌜ Makes write (integerBinary (lent (now (tables .entry)) (now (offsets .entry))) (varAt (now (s .entry)) (k + 2)) (binaryOp op) (operandAt (now (s .entry)) (k + 5)) (operandAt (now (s .entry)) (k + 9))) at (now (out .entry)) (now (out .exit)) r ⌝ }
+{
+    match op {
+        0..=1 => CountResult::Refused(7),
+        2 => simple_operation(tables, offsets, s, k, BinOp::Or, out, at, write),
+        3 => simple_operation(tables, offsets, s, k, BinOp::Xor, out, at, write),
+        4 => simple_operation(tables, offsets, s, k, BinOp::And, out, at, write),
+        5..=10 => comparison(tables, offsets, s, k, comparison_code(op), out, at, write),
+        11 => shift(tables, offsets, s, k, ShiftOp::Shl, out, at, write),
+        12 => shift(
+            tables,
+            offsets,
+            s,
+            k,
+            right_shift(type_at(s, k + 3)),
+            out,
+            at,
+            write,
+        ),
+        13 => simple_operation(tables, offsets, s, k, BinOp::Add, out, at, write),
+        14 => simple_operation(tables, offsets, s, k, BinOp::Sub, out, at, write),
+        15 => multiplication(tables, offsets, s, k, out, at, write),
+        16 => division(tables, offsets, s, k, Register::RAX, out, at, write),
+        _ => division(tables, offsets, s, k, Register::RDX, out, at, write),
+    }
+}
+
 // `dest = left op right`, sized by dest; `op` is a position in Krc's `BinaryOp`. The logical pair never reaches the lowering.
 pub fn generate_binary(
     tables: &[u8],
     offsets: &[u64],
-    dest: VarId,
+    s: &[u8],
+    k: usize,
     op: u64,
-    left: IrOp,
-    right: IrOp,
-) -> Records
-    ensures { λ r. ⌜ recordsSay r ≡ encoded (generateBinary (lent (now (tables .entry)) (now (offsets .entry))) dest (binaryOp op) left right) ⌝ }
+    out: &mut [u8],
+    at: usize,
+    write: bool,
+) -> CountResult
+    requires { ⌜ k + 13 ≤ cells (now s) ⌝ }
+    requires { ⌜ Ready write (generateBinary (lent (now tables) (now offsets)) (varAt (now s) (k + 2)) (binaryOp op) (operandAt (now s) (k + 5)) (operandAt (now s) (k + 9))) at (length (now out)) ⌝ }
+    ensures { λ r. ⌜ Makes write (generateBinary (lent (now (tables .entry)) (now (offsets .entry))) (varAt (now (s .entry)) (k + 2)) (binaryOp op) (operandAt (now (s .entry)) (k + 5)) (operandAt (now (s .entry)) (k + 9))) at (now (out .entry)) (now (out .exit)) r ⌝ }
 {
-    let ty = dest.ty;
+    let ty = type_at(s, k + 3);
     if ty.is_float() {
-        return float_binary(tables, offsets, dest, op, left, right);
+        return float_binary(tables, offsets, s, k, op, out, at, write);
     }
-    match op {
-        0..=1 => Records::Refused(7),
-        2 => simple_operation(tables, offsets, dest, left, right, BinOp::Or),
-        3 => simple_operation(tables, offsets, dest, left, right, BinOp::Xor),
-        4 => simple_operation(tables, offsets, dest, left, right, BinOp::And),
-        5..=10 => comparison(tables, offsets, dest, left, right, comparison_code(op)),
-        11 => shift(tables, offsets, dest, left, right, ShiftOp::Shl),
-        12 => shift(tables, offsets, dest, left, right, right_shift(ty)),
-        13 => simple_operation(tables, offsets, dest, left, right, BinOp::Add),
-        14 => simple_operation(tables, offsets, dest, left, right, BinOp::Sub),
-        15 => multiplication(tables, offsets, dest, left, right),
-        16 => division(tables, offsets, dest, left, right, Register::RAX),
-        _ => division(tables, offsets, dest, left, right, Register::RDX),
+    integer_binary(tables, offsets, s, k, op, out, at, write)
+}
+
+// A source, dest's slot and dest's size.
+pub struct Changed {
+    pub src: Operand,
+    pub var: Operand,
+    pub size: Size,
+}
+
+pub enum ChangedResult {
+    Is(Changed),
+    Refused(u64),
+}
+
+fn look_unary(tables: &[u8], offsets: &[u64], s: &[u8], k: usize) -> ChangedResult
+    requires { ⌜ k + 13 ≤ cells (now s) ⌝ }
+    ensures { λ r. ⌜ changedSays r ≡ lookUnary (lent (now (tables .entry)) (now (offsets .entry))) (varAt (now (s .entry)) (k + 2)) (operandAt (now (s .entry)) (k + 5)) ⌝ }
+{
+    let size = match var_size_at(s, k + 2) {
+        SizeResult::Is(size) => size,
+        SizeResult::Refused(n) => return ChangedResult::Refused(n),
+    };
+    let src = match source_at(tables, offsets, s, k + 5) {
+        OperandResult::Is(src) => src,
+        OperandResult::Refused(n) => return ChangedResult::Refused(n),
+    };
+    match convert_var_at(tables, offsets, s, k + 2) {
+        OperandResult::Is(var) => ChangedResult::Is(Changed { src, var, size }),
+        OperandResult::Refused(n) => ChangedResult::Refused(n),
     }
 }
 
@@ -127,51 +192,118 @@ fn sign_bit(size: Size) -> u64
     }
 }
 
-fn unary(op: UnaryOp, size: Size) -> Instruction
-    ensures { λ r. ⌜ r ≡ Instruction.Unary op (Operand.Reg RAX) size ⌝ }
+// A load, a record on RAX, and the store to dest.
+fn put_unary(out: &mut [u8], at: usize, t: Changed, i: Instruction)
+    requires { ⌜ at + 192 ≤ length (now out) ⌝ }
+    ensures { λ _. ⌜ now (out .exit) ≡ write (now (out .entry)) at (listBytes (changedOf i t)) ⌝ }
 {
-    Instruction::Unary {
-        op,
-        dst: Operand::Reg(Register::RAX),
-        size,
+    let src = t.src;
+    let var = t.var;
+    let size = t.size;
+    put_load(out, at, Register::RAX, src, size);
+    put_instruction(out, at + 64, i);
+    put_instruction(out, at + 128, mov(var, Operand::Reg(Register::RAX), size));
+}
+
+// -x of a float flips its sign bit.
+fn put_sign(out: &mut [u8], at: usize, t: Changed)
+    requires { ⌜ at + 256 ≤ length (now out) ⌝ }
+    ensures { λ _. ⌜ now (out .exit) ≡ write (now (out .entry)) at (listBytes (signOf t)) ⌝ }
+{
+    let src = t.src;
+    let var = t.var;
+    let size = t.size;
+    let rax = Operand::Reg(Register::RAX);
+    let rcx = Operand::Reg(Register::RCX);
+    put_load(out, at, Register::RAX, src, size);
+    put_instruction(out, at + 64, mov(rcx, Operand::Imm(sign_bit(size)), size));
+    put_instruction(
+        out,
+        at + 128,
+        Instruction::Binary {
+            op: BinOp::Xor,
+            dst: rax,
+            src: rcx,
+            size,
+        },
+    );
+    put_instruction(out, at + 192, mov(var, rax, size));
+}
+
+// The record of an operation on RAX; the logical not of a Bool flips its lowest bit.
+fn unary_record(op: IrUnary, size: Size) -> Instruction
+    ensures { λ r. ⌜ r ≡ unaryRecord op size ⌝ }
+{
+    let rax = Operand::Reg(Register::RAX);
+    match op {
+        IrUnary::Neg => Instruction::Unary {
+            op: UnaryOp::Neg,
+            dst: rax,
+            size,
+        },
+        IrUnary::BitNot => Instruction::Unary {
+            op: UnaryOp::Not,
+            dst: rax,
+            size,
+        },
+        IrUnary::Not => Instruction::Binary {
+            op: BinOp::Xor,
+            dst: rax,
+            src: Operand::Imm(1),
+            size,
+        },
     }
 }
 
-// `dest = op src`. -x of a float flips its sign bit, the logical not of a Bool its lowest bit.
+fn is_negation(op: IrUnary) -> bool
+    ensures { λ r. ⌜ r ≡ isNegation op ⌝ }
+{
+    match op {
+        IrUnary::Neg => true,
+        IrUnary::BitNot => false,
+        IrUnary::Not => false,
+    }
+}
+
+fn flips_sign(op: IrUnary, ty: Type) -> bool
+    ensures { λ r. ⌜ r ≡ flipsSign op ty ⌝ }
+{
+    if is_negation(op) {
+        ty.is_float()
+    } else {
+        false
+    }
+}
+
+// `dest = op src`.
 pub fn generate_unary(
     tables: &[u8],
     offsets: &[u64],
-    dest: VarId,
+    s: &[u8],
+    k: usize,
     op: IrUnary,
-    src: IrOp,
-) -> Records
-    ensures { λ r. ⌜ recordsSay r ≡ encoded (generateUnary (lent (now (tables .entry)) (now (offsets .entry))) dest op src) ⌝ }
+    out: &mut [u8],
+    at: usize,
+    write: bool,
+) -> CountResult
+    requires { ⌜ k + 13 ≤ cells (now s) ⌝ }
+    requires { ⌜ Ready write (generateUnary (lent (now tables) (now offsets)) (varAt (now s) (k + 2)) op (operandAt (now s) (k + 5))) at (length (now out)) ⌝ }
+    ensures { λ r. ⌜ Makes write (generateUnary (lent (now (tables .entry)) (now (offsets .entry))) (varAt (now (s .entry)) (k + 2)) op (operandAt (now (s .entry)) (k + 5))) at (now (out .entry)) (now (out .exit)) r ⌝ }
 {
-    let rax = Operand::Reg(Register::RAX);
-    let rcx = Operand::Reg(Register::RCX);
-    let size = match var_size(dest) {
-        Sized::Is(size) => size,
-        Sized::Refused(n) => return Records::Refused(n),
-    };
-    let load = match load_operand(tables, offsets, Register::RAX, src, size) {
-        Loaded::Is(load) => load,
-        Loaded::Refused(n) => return Records::Refused(n),
-    };
-    let store = match convert_var(tables, offsets, dest) {
-        Placed::Is(var) => mov(var, rax, size),
-        Placed::Refused(n) => return Records::Refused(n),
-    };
-    let ty = dest.ty;
-    match op {
-        IrUnary::Neg => {
-            if ty.is_float() {
-                let bit = mov(rcx, Operand::Imm(sign_bit(size)), size);
-                four(load, bit, binary(BinOp::Xor, rax, rcx, size), store)
-            } else {
-                three(load, unary(UnaryOp::Neg, size), store)
+    match look_unary(tables, offsets, s, k) {
+        ChangedResult::Is(t) => {
+            if flips_sign(op, type_at(s, k + 3)) {
+                if write {
+                    put_sign(out, at, t);
+                }
+                return CountResult::Records(4);
             }
+            if write {
+                let size = t.size;
+                put_unary(out, at, t, unary_record(op, size));
+            }
+            CountResult::Records(3)
         }
-        IrUnary::BitNot => three(load, unary(UnaryOp::Not, size), store),
-        IrUnary::Not => three(load, binary(BinOp::Xor, rax, Operand::Imm(1), size), store),
+        ChangedResult::Refused(n) => CountResult::Refused(n),
     }
 }

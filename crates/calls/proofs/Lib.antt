@@ -1,3 +1,3 @@
 pub mod Parts
-pub mod ByCells
 pub mod Loads
+pub mod Calling

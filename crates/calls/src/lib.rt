@@ -1,29 +1,16 @@
 // Krc's codegen/instructions.rs, calls: `generate_call`, with `float_parameter` and `normal_param`.
-mod quick;
-
-use crate::quick::is_floating;
-use crate::quick::is_quick;
-use crate::quick::is_sized;
-use crate::quick::put_dropped;
-use crate::quick::put_kept;
-use crate::quick::put_load;
-use frame::param_register;
-use frame::registers;
-use integers::cellwise::cells_record;
 use ir::Dest;
 use ir::Operand as IrOp;
 use ir::VarId;
 use ir::read::operand_at;
-use records::Records;
-use records::put_records;
-use records::two;
-use utils::Loaded;
-use utils::Made;
-use utils::Placed;
-use utils::Sized;
+use utils::CountResult;
+use utils::OperandResult;
+use utils::SizeResult;
 use utils::convert_var;
 use utils::load_operand;
-use utils::room;
+use utils::mov;
+use utils::registers::param_register;
+use utils::registers::registers;
 use utils::var_size;
 use x86::enums::BinOp;
 use x86::enums::CtrlOp;
@@ -31,30 +18,76 @@ use x86::enums::Instruction;
 use x86::enums::Operand;
 use x86::enums::Size;
 use x86::record::put_instruction;
-use x86::record::put_record;
 use x86::register::Register;
 ghost use mathlib.Core.Path.{_≡_};
 ghost use mathlib.Core.Bool.{cond};
-ghost use mathlib.Core.List.{[], _∷_};
 ghost use Prim.Native.Nat.{_+_, _*_, _-_, _≤_};
-ghost use Rattle.cells.specs.Cells.{cells};
+ghost use lib.ListN.{length};
+ghost use Rattle.cells.specs.Cells.{cells, write};
 ghost use Rattle.ir.specs.declared.Dest.{Dest};
-ghost use Rattle.ir.specs.Function.{operandAt, operandsAt};
-ghost use Rattle.codegen.specs.Instructions.{loadArgument, loadArguments, generateCall};
+ghost use Rattle.ir.specs.Types.{ok};
+ghost use Rattle.ir.specs.Function.{operandsAt};
+ghost use Rattle.x86.specs.Records.{recordOf, recordBytes};
 ghost use Rattle.codegen.specs.Frame.{registersOf};
-ghost use Rattle.utils.specs.Answers.{lent, loadedSays, madeSays, counted, emitted, placed};
-ghost use Rattle.utils.specs.Parts.{PutAll};
-ghost use Rattle.records.specs.Records.{recordsSay, encoded};
-ghost use Rattle.calls.specs.Calls.{countFloats, storeVar, callSymbol, alone};
+ghost use Rattle.codegen.specs.Instructions.{floating, loadArgument, loadArguments, generateCall};
+ghost use Rattle.utils.specs.Answers.{lent};
+ghost use Rattle.utils.specs.Makes.{alone, Makes, Ready};
+ghost use Rattle.calls.specs.Calls.{isFloatConstant, countFloats, callOf, keptSays, lookResult, resultOf, callSymbol};
+
+// The slot of a result, and its size.
+pub struct Kept {
+    pub var: Operand,
+    pub size: Size,
+}
+
+pub enum KeptResult {
+    Is(Kept),
+    Refused(u64),
+}
+
+fn is_float_constant(op: IrOp) -> bool
+    ensures { λ r. ⌜ r ≡ isFloatConstant op ⌝ }
+{
+    if let IrOp::Float(_) = op { true } else { false }
+}
+
+// Whether an argument goes into an XMM register.
+fn is_floating(op: IrOp) -> bool
+    ensures { λ r. ⌜ r ≡ floating op ⌝ }
+{
+    let IrOp::Var(v) = op else {
+        return is_float_constant(op);
+    };
+    let ty = v.ty;
+    ty.is_float()
+}
 
 // The argument of rank `k` among those that are floats, or among those that are not, into the register of its rank; refusal 8 where there is none.
-fn load_argument(tables: &[u8], offsets: &[u64], float: bool, k: u64, op: IrOp) -> Loaded
-    ensures { λ r. ⌜ loadedSays r ≡ loadArgument (lent (now (tables .entry)) (now (offsets .entry))) (registersOf float) k op ⌝ }
+fn load_argument(
+    tables: &[u8],
+    offsets: &[u64],
+    float: bool,
+    k: u64,
+    op: IrOp,
+    out: &mut [u8],
+    at: usize,
+    write: bool,
+) -> CountResult
+    requires { ⌜ Ready write (alone (loadArgument (lent (now tables) (now offsets)) (registersOf float) k op)) at (length (now out)) ⌝ }
+    ensures { λ r. ⌜ Makes write (alone (loadArgument (lent (now (tables .entry)) (now (offsets .entry))) (registersOf float) k op)) at (now (out .entry)) (now (out .exit)) r ⌝ }
 {
     if registers(float) <= k {
-        return Loaded::Refused(8);
+        return CountResult::Refused(8);
     }
-    load_operand(tables, offsets, param_register(float, k), op, Size::NoSize)
+    load_operand(
+        tables,
+        offsets,
+        param_register(float, k),
+        op,
+        out,
+        at,
+        write,
+    )
 }
 
 // The rank of the next argument, where `done` are loaded and `floats` of them are floats.
@@ -73,68 +106,23 @@ fn floats_with(float: bool, floats: u64) -> u64
     if float { floats + 1 } else { floats }
 }
 
-// A record at `at`, if the slice has room for it.
-fn put_one(out: &mut [u8], at: usize, i: Instruction)
-    ensures { λ _. ⌜ now (out .exit) ≡ emitted at (i ∷ []) (now (out .entry)) ⌝ }
-{
-    if 1 <= room(out.len(), at) {
-        put_instruction(out, at, i);
-    }
-}
-
-// The argument of rank `k` in any case: looked up, and its record written if the slice has room for it.
-fn put_looked_up(
-    tables: &[u8],
-    offsets: &[u64],
-    float: bool,
-    k: u64,
-    op: IrOp,
-    out: &mut [u8],
-    at: usize,
-) -> Made
-    ensures { λ r. ⌜ madeSays r ≡ counted (alone (loadArgument (lent (now (tables .entry)) (now (offsets .entry))) (registersOf float) k op)) ⌝ }
-    ensures { λ r. ⌜ now (out .exit) ≡ placed at (alone (loadArgument (lent (now (tables .entry)) (now (offsets .entry))) (registersOf float) k op)) (now (out .entry)) ⌝ }
-{
-    match load_argument(tables, offsets, float, k, op) {
-        Loaded::Is(load) => {
-            put_one(out, at, load);
-            Made::Records(1)
-        }
-        Loaded::Refused(number) => Made::Refused(number),
-    }
-}
-
-// The argument of rank `k` at a cell, by its cells where no look-up refuses it.
-fn put_argument(
-    tables: &[u8],
-    offsets: &[u64],
-    sheet: &[u8],
-    cell: usize,
-    float: bool,
-    k: u64,
-    out: &mut [u8],
-    at: usize,
-) -> Made
-    requires { ⌜ cell + 4 ≤ cells (now sheet) ⌝ }
-    ensures { λ r. ⌜ madeSays r ≡ counted (alone (loadArgument (lent (now (tables .entry)) (now (offsets .entry))) (registersOf float) k (operandAt (now (sheet .entry)) cell))) ⌝ }
-    ensures { λ r. ⌜ now (out .exit) ≡ placed at (alone (loadArgument (lent (now (tables .entry)) (now (offsets .entry))) (registersOf float) k (operandAt (now (sheet .entry)) cell))) (now (out .entry)) ⌝ }
-{
-    if is_quick(tables, offsets, sheet, cell) {
-        if k < registers(float) {
-            put_load(offsets, sheet, cell, float, k, out, at);
-            return Made::Records(1);
-        }
-    }
-    put_looked_up(tables, offsets, float, k, operand_at(sheet, cell), out, at)
-}
-
 // The number of floats, in RAX.
-fn put_floats(out: &mut [u8], at: usize, floats: u64)
-    ensures { λ _. ⌜ now (out .exit) ≡ emitted at (countFloats floats) (now (out .entry)) ⌝ }
+fn count_floats(out: &mut [u8], at: usize, floats: u64, write: bool) -> CountResult
+    requires { ⌜ Ready write (ok (countFloats floats)) at (length (now out)) ⌝ }
+    ensures { λ r. ⌜ Makes write (ok (countFloats floats)) at (now (out .entry)) (now (out .exit)) r ⌝ }
 {
-    if 1 <= room(out.len(), at) {
-        put_record(out, at, cells_record(0, 0, 0, 2, floats, 0, 0));
+    if write {
+        put_instruction(
+            out,
+            at,
+            mov(
+                Operand::Reg(Register::RAX),
+                Operand::Imm(floats),
+                Size::NoSize,
+            ),
+        );
     }
+    CountResult::Records(1)
 }
 
 // The loads of the `count` arguments from cell `from` on, and of the number of floats.
@@ -146,98 +134,133 @@ fn load_arguments(
     from: usize,
     out: &mut [u8],
     at: usize,
-) -> Made
+    write: bool,
+) -> CountResult
     requires { ⌜ from + 4 * count ≤ cells (now sheet) ⌝ }
     requires { ⌜ count ≤ 64 ⌝ }
     requires { ⌜ at ≤ 4294967296 ⌝ }
-    ensures { λ r. ⌜ madeSays r ≡ counted (loadArguments (lent (now (tables .entry)) (now (offsets .entry))) 0 0 (operandsAt (now (sheet .entry)) count from)) ⌝ }
-    ensures { λ r. ⌜ PutAll at (loadArguments (lent (now (tables .entry)) (now (offsets .entry))) 0 0 (operandsAt (now (sheet .entry)) count from)) (now (out .entry)) (now (out .exit)) ⌝ }
+    requires { ⌜ Ready write (loadArguments (lent (now tables) (now offsets)) 0 0 (operandsAt (now sheet) count from)) at (length (now out)) ⌝ }
+    ensures { λ r. ⌜ Makes write (loadArguments (lent (now (tables .entry)) (now (offsets .entry))) 0 0 (operandsAt (now (sheet .entry)) count from)) at (now (out .entry)) (now (out .exit)) r ⌝ }
 {
     let mut left = count;
     let mut cell = from;
     let mut done: u64 = 0;
     let mut floats: u64 = 0;
     while 0 < left {
-        let float = is_floating(sheet, cell);
+        let op = operand_at(sheet, cell);
+        let float = is_floating(op);
         let k = rank(float, done, floats);
         let place = at + 64 * done as usize;
-        match put_argument(tables, offsets, sheet, cell, float, k, out, place) {
-            Made::Records(_) => {}
-            Made::Refused(number) => return Made::Refused(number),
+        match load_argument(tables, offsets, float, k, op, out, place, write) {
+            CountResult::Records(_) => {}
+            CountResult::Refused(number) => return CountResult::Refused(number),
         }
         floats = floats_with(float, floats);
         done += 1;
         cell += 4;
         left -= 1;
     }
-    put_floats(out, at + 64 * done as usize, floats);
-    Made::Records(done + 1)
+    let end = at + 64 * done as usize;
+    count_floats(out, end, floats, write);
+    CountResult::Records(done + 1)
 }
 
-// A result that is kept, from XMM0 or RAX.
-fn store_var(tables: &[u8], offsets: &[u64], v: VarId) -> Loaded
-    ensures { λ r. ⌜ loadedSays r ≡ storeVar (lent (now (tables .entry)) (now (offsets .entry))) v ⌝ }
+fn look_result(tables: &[u8], offsets: &[u64], v: VarId) -> KeptResult
+    ensures { λ r. ⌜ keptSays r ≡ lookResult (lent (now (tables .entry)) (now (offsets .entry))) v ⌝ }
 {
-    let dst = match convert_var(tables, offsets, v) {
-        Placed::Is(dst) => dst,
-        Placed::Refused(n) => return Loaded::Refused(n),
+    let var = match convert_var(tables, offsets, v) {
+        OperandResult::Is(var) => var,
+        OperandResult::Refused(n) => return KeptResult::Refused(n),
     };
-    let size = match var_size(v) {
-        Sized::Is(size) => size,
-        Sized::Refused(n) => return Loaded::Refused(n),
-    };
-    let ty = v.ty;
-    if ty.is_float() {
-        return Loaded::Is(Instruction::Binary {
-            op: BinOp::StoreF,
-            dst,
-            src: Operand::Reg(Register::XMM0),
-            size,
-        });
+    match var_size(v) {
+        SizeResult::Is(size) => KeptResult::Is(Kept { var, size }),
+        SizeResult::Refused(n) => KeptResult::Refused(n),
     }
-    Loaded::Is(Instruction::Binary {
-        op: BinOp::Mov,
-        dst,
-        src: Operand::Reg(Register::RAX),
-        size,
-    })
+}
+
+fn put_call(out: &mut [u8], at: usize, symbol: u64)
+    requires { ⌜ at + 64 ≤ length (now out) ⌝ }
+    ensures { λ _. ⌜ now (out .exit) ≡ write (now (out .entry)) at (recordBytes (recordOf (callOf symbol))) ⌝ }
+{
+    put_instruction(
+        out,
+        at,
+        Instruction::Ctrl {
+            op: CtrlOp::Call,
+            target: Operand::Sym(symbol),
+        },
+    );
+}
+
+// The result comes from XMM0 or RAX.
+fn put_result(out: &mut [u8], at: usize, t: Kept, float: bool)
+    requires { ⌜ at + 64 ≤ length (now out) ⌝ }
+    ensures { λ _. ⌜ now (out .exit) ≡ write (now (out .entry)) at (recordBytes (recordOf (resultOf float t))) ⌝ }
+{
+    let var = t.var;
+    let size = t.size;
+    if float {
+        put_instruction(
+            out,
+            at,
+            Instruction::Binary {
+                op: BinOp::StoreF,
+                dst: var,
+                src: Operand::Reg(Register::XMM0),
+                size,
+            },
+        );
+        return;
+    }
+    put_instruction(out, at, mov(var, Operand::Reg(Register::RAX), size));
 }
 
 // The call, and the store of its result.
-fn store_result(tables: &[u8], offsets: &[u64], v: VarId, symbol: u64) -> Records
-    ensures { λ r. ⌜ recordsSay r ≡ encoded (callSymbol (lent (now (tables .entry)) (now (offsets .entry))) (Dest.Var v) symbol) ⌝ }
+fn call_kept(
+    tables: &[u8],
+    offsets: &[u64],
+    v: VarId,
+    symbol: u64,
+    out: &mut [u8],
+    at: usize,
+    write: bool,
+) -> CountResult
+    requires { ⌜ Ready write (callSymbol (lent (now tables) (now offsets)) (Dest.Var v) symbol) at (length (now out)) ⌝ }
+    ensures { λ r. ⌜ Makes write (callSymbol (lent (now (tables .entry)) (now (offsets .entry))) (Dest.Var v) symbol) at (now (out .entry)) (now (out .exit)) r ⌝ }
 {
-    let call = Instruction::Ctrl {
-        op: CtrlOp::Call,
-        target: Operand::Sym(symbol),
-    };
-    match store_var(tables, offsets, v) {
-        Loaded::Is(store) => two(call, store),
-        Loaded::Refused(n) => Records::Refused(n),
+    let ty = v.ty;
+    match look_result(tables, offsets, v) {
+        KeptResult::Is(t) => {
+            if write {
+                put_call(out, at, symbol);
+                put_result(out, at + 64, t, ty.is_float());
+            }
+            CountResult::Records(2)
+        }
+        KeptResult::Refused(n) => CountResult::Refused(n),
     }
 }
 
-// The call, and the store of its result, if it is kept: without a list where no look-up refuses its variable.
-fn put_call(
+// .. if it is kept.
+fn call_symbol(
     tables: &[u8],
     offsets: &[u64],
     dest: Dest,
     symbol: u64,
     out: &mut [u8],
     at: usize,
-) -> Made
-    ensures { λ r. ⌜ madeSays r ≡ counted (callSymbol (lent (now (tables .entry)) (now (offsets .entry))) dest symbol) ⌝ }
-    ensures { λ r. ⌜ now (out .exit) ≡ placed at (callSymbol (lent (now (tables .entry)) (now (offsets .entry))) dest symbol) (now (out .entry)) ⌝ }
+    write: bool,
+) -> CountResult
+    requires { ⌜ Ready write (callSymbol (lent (now tables) (now offsets)) dest symbol) at (length (now out)) ⌝ }
+    ensures { λ r. ⌜ Makes write (callSymbol (lent (now (tables .entry)) (now (offsets .entry))) dest symbol) at (now (out .entry)) (now (out .exit)) r ⌝ }
 {
     let Dest::Var(v) = dest else {
-        put_dropped(symbol, out, at);
-        return Made::Records(1);
+        if write {
+            put_call(out, at, symbol);
+        }
+        return CountResult::Records(1);
     };
-    if is_sized(offsets, v) {
-        put_kept(offsets, v, symbol, out, at);
-        return Made::Records(2);
-    }
-    put_records(out, at, store_result(tables, offsets, v, symbol))
+    call_kept(tables, offsets, v, symbol, out, at, write)
 }
 
 // `call symbol` with the `count` arguments from cell `from` on: the floats in XMM0 to XMM7, the others in RDI, RSI, RDX, RCX, R8 and R9.
@@ -251,20 +274,21 @@ pub fn generate_call(
     symbol: u64,
     out: &mut [u8],
     at: usize,
-) -> Made
+    write: bool,
+) -> CountResult
     requires { ⌜ from + 4 * count ≤ cells (now sheet) ⌝ }
     requires { ⌜ count ≤ 64 ⌝ }
     requires { ⌜ at ≤ 4294967296 ⌝ }
-    ensures { λ r. ⌜ madeSays r ≡ counted (generateCall (lent (now (tables .entry)) (now (offsets .entry))) dest symbol (operandsAt (now (sheet .entry)) count from)) ⌝ }
-    ensures { λ r. ⌜ PutAll at (generateCall (lent (now (tables .entry)) (now (offsets .entry))) dest symbol (operandsAt (now (sheet .entry)) count from)) (now (out .entry)) (now (out .exit)) ⌝ }
+    requires { ⌜ Ready write (generateCall (lent (now tables) (now offsets)) dest symbol (operandsAt (now sheet) count from)) at (length (now out)) ⌝ }
+    ensures { λ r. ⌜ Makes write (generateCall (lent (now (tables .entry)) (now (offsets .entry))) dest symbol (operandsAt (now (sheet .entry)) count from)) at (now (out .entry)) (now (out .exit)) r ⌝ }
 {
-    let loads = match load_arguments(tables, offsets, sheet, count, from, out, at) {
-        Made::Records(loads) => loads,
-        Made::Refused(number) => return Made::Refused(number),
+    let loads = match load_arguments(tables, offsets, sheet, count, from, out, at, write) {
+        CountResult::Records(loads) => loads,
+        CountResult::Refused(number) => return CountResult::Refused(number),
     };
     let place = at + 64 * loads as usize;
-    match put_call(tables, offsets, dest, symbol, out, place) {
-        Made::Records(rest) => Made::Records(loads + rest),
-        Made::Refused(number) => Made::Refused(number),
+    match call_symbol(tables, offsets, dest, symbol, out, place, write) {
+        CountResult::Records(rest) => CountResult::Records(loads + rest),
+        CountResult::Refused(number) => CountResult::Refused(number),
     }
 }

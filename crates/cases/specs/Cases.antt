@@ -1,18 +1,22 @@
--- The twelve cases of 01 as one table: what the definitions give, and what 01 says. Sheets are given by their cells, values by a run.
-use Prim.Native.Nat.{ℕ, _*_}
+-- Believed: it is 01's table of twelve cases, what the definitions give beside what 01 says. Sheets are given by their cells, values by a run. No other
+-- claim rests on it.
+use Prim.Native.Nat.{ℕ, _+_, _*_}
 use mathlib.Core.Path.{_≡_}
 use mathlib.Core.Bool.{false}
 use mathlib.Core.List.{List, [], _∷_, _++_, map}
 use lib.ListN.{length, getD, replicate}
 use Rattle.cells.specs.Cells.{bytesOf, minus, word}
+use Rattle.ir.specs.Types as types
+use Rattle.ir.specs.Types.{Result, ok}
 use Rattle.ir.specs.Function.{functionOf}
 use Rattle.x86.specs.declared.enums.Instruction.{Instruction}
+use Rattle.codegen.specs.Frame.{varOffsets}
 use Rattle.codegen.specs.Generation.{Outcome, accepted, refused, lowered, recordsAfter}
 use Rattle.machine.specs.Frames.{offset}
 use Rattle.machine.specs.Machine as x86
 use Rattle.machine.specs.Machine.{State, Choice}
 use Rattle.machine.specs.Steps as steps
-use Rattle.machine.specs.Simulation.{start}
+use Rattle.machine.specs.Simulation.{Entry, start}
 
 -- ---- cells
 
@@ -66,13 +70,20 @@ noDest = 0 ∷ 0 ∷ 0 ∷ []
 
 -- ---- what is asked of an answer
 
+-- 01's tables `0`: no strings and no floats
+abbrev pub empty : List ℕ
+empty = fromCells (0 ∷ [])
+
 -- no strings, one long float constant
-abbrev pub tables : List ℕ
-tables = fromCells (0 ∷ 0 ∷ [])
+abbrev pub oneFloat : List ℕ
+oneFloat = fromCells (0 ∷ 0 ∷ [])
 
 -- into 64 KiB of record bytes
+abbrev pub answerBy : List ℕ → List ℕ → Outcome (List Instruction)
+answerBy tables s = lowered tables s 65536
+
 abbrev pub answer : List ℕ → Outcome (List Instruction)
-answer s = lowered tables s 65536
+answer s = answerBy empty s
 
 -- 0 and the record count, or number and place
 abbrev pub summary : Outcome (List Instruction) → List ℕ
@@ -91,14 +102,19 @@ cellsOf s = toCells (8 * length (listOf (answer s))) (recordsAfter (answer s) []
 abbrev pub frameOf : List ℕ → ℕ
 frameOf s = getD (cellsOf s) 21 0
 
-abbrev pub offsetsOf : List ℕ → List ℕ
-offsetsOf s = map (offset (functionOf s .vars)) (0 ∷ 1 ∷ 2 ∷ [])
+abbrev pub listed : Result (List ℕ) → List ℕ
+listed (ok offsets) = offsets
+listed (types.refused n) = []
 
--- registers 1000 times their number, memory full of sevens
+-- the offsets of three variables: the claims', then the lowering's own
+abbrev pub offsetsOf : List ℕ → List ℕ
+offsetsOf s = map (offset (functionOf s .vars)) (0 ∷ 1 ∷ 2 ∷ []) ++ listed (varOffsets (functionOf s .vars))
+
+-- an entry by the ABI: registers 1000 times their number and 8, memory full of sevens
 abbrev pub entry : State
 entry =
     record {
-      regs = λ r. 1000 * r;
+      regs = λ r. 1000 * r + 8;
       mem = λ a. 7;
       flags = record { zf = false; sf = false; cf = false; pf = false; ov = false; df = false };
       links = λ b k. 0;
@@ -121,8 +137,10 @@ returned s n m = valueOf (steps.run (functionOf s) n (start (functionOf s) entry
 
 -- ---- the sheets
 
+-- 01's own cells
 abbrev pub listing : List ℕ
-listing = fromCells (1 ∷ 1 ∷ 0 ∷ 3 ∷ minus 1 ∷ 1 ∷ short ++ 0 ∷ short ++ instr 9 0 noDest (var 0 short) nothing)
+listing =
+    fromCells (1 ∷ 1 ∷ 0 ∷ 3 ∷ minus 1 ∷ 1 ∷ 3 ∷ minus 1 ∷ 0 ∷ 3 ∷ minus 1 ∷ 9 ∷ 0 ∷ 0 ∷ 0 ∷ 0 ∷ 0 ∷ 0 ∷ 3 ∷ minus 1 ∷ 0 ∷ 0 ∷ 0 ∷ 0 ∷ [])
 
 abbrev pub calling : List (List ℕ) → List ℕ
 calling args = sheet 0 0 1 (instr 5 0 noDest (0 ∷ length args ∷ 0 ∷ 0 ∷ []) nothing ++ concat args)
@@ -151,9 +169,10 @@ case a b = record { given = a; expected = b }
 
 abbrev pub cases : List Case
 cases =
-    -- the listing
-    case (cellsOf listing)
-    (14 ∷ 0 ∷ 1 ∷ 5 ∷ 0 ∷ 0 ∷ 0 ∷ 0
+    -- the listing: `ok`, the record count, and a line of eight cells a record
+    case (summary (answer listing) ++ cellsOf listing)
+    (0 ∷ 8
+    ∷ 14 ∷ 0 ∷ 1 ∷ 5 ∷ 0 ∷ 0 ∷ 0 ∷ 0
     ∷ 0 ∷ 0 ∷ 1 ∷ 5 ∷ 1 ∷ 4 ∷ 0 ∷ 0
     ∷ 0 ∷ 3 ∷ 1 ∷ 4 ∷ 2 ∷ 16 ∷ 0 ∷ 0
     ∷ 0 ∷ 0 ∷ 5 ∷ minus 4 ∷ 1 ∷ 7 ∷ 4 ∷ 0
@@ -164,15 +183,15 @@ cases =
     -- no variables and no instructions: six records, frame 0
     ∷ case (frameOf (sheet 0 0 0 []) ∷ summary (answer (sheet 0 0 0 []))) (0 ∷ 0 ∷ 6 ∷ [])
     -- sizes 4, 1, 8: offsets 4, 5, 13, frame 16
-    ∷ case (frameOf (sheet 3 0 0 (short ++ bool ++ long)) ∷ offsetsOf (sheet 3 0 0 (short ++ bool ++ long))) (16 ∷ 4 ∷ 5 ∷ 13 ∷ [])
+    ∷ case (frameOf (sheet 3 0 0 (short ++ bool ++ long)) ∷ offsetsOf (sheet 3 0 0 (short ++ bool ++ long))) (16 ∷ 4 ∷ 5 ∷ 13 ∷ 4 ∷ 5 ∷ 13 ∷ [])
     -- total 17: frame 32
     ∷ case (frameOf (sheet 1 0 0 (byteArray 17)) ∷ []) (32 ∷ [])
     -- sizes 4, 0, 4: offsets 4, 4, 8
-    ∷ case (offsetsOf (sheet 3 0 0 (short ++ byteArray 0 ++ short))) (4 ∷ 4 ∷ 8 ∷ [])
+    ∷ case (offsetsOf (sheet 3 0 0 (short ++ byteArray 0 ++ short))) (4 ∷ 4 ∷ 8 ∷ 4 ∷ 4 ∷ 8 ∷ [])
     -- total 1,048,576 lowers, one more is 3, with the count cell that passes it
     ∷ case (summary (answer (sheet 2 0 0 (byteArray 1048575 ++ bool))) ++ summary (answer (sheet 2 0 0 (byteArray 1048576 ++ bool)))) (0 ∷ 6 ∷ 3 ∷ 9 ∷ [])
     -- six plain and eight float arguments lower, a seventh plain is 8
-    ∷ case (summary (answer (calling (replicate 6 (int 5 0) ++ replicate 8 float))) ++ summary (answer (calling (replicate 7 (int 5 0)))))
+    ∷ case (summary (answerBy oneFloat (calling (replicate 6 (int 5 0) ++ replicate 8 float))) ++ summary (answer (calling (replicate 7 (int 5 0)))))
     (0 ∷ 22 ∷ 8 ∷ 1 ∷ [])
     -- logical And is 7
     ∷ case (summary (answer (sheet 1 0 1 (bool ++ instr 2 1 (0 ∷ bool) (var 0 bool) (var 0 bool))))) (7 ∷ 1 ∷ [])
@@ -185,6 +204,7 @@ cases =
     -- Return then Comment adds no second epilogue
     ∷ case (summary (answer (sheet 0 0 2 (instr 9 0 noDest (int 0 0) nothing ++ instr 10 0 noDest nothing nothing)))) (0 ∷ 7 ∷ []) ∷ []
 
--- what the definitions give is what 01 says, in every case
-abbrev pub Hold : Type 0
-Hold = map (λ (c : Case). c .given) cases ≡ map (λ (c : Case). c .expected) cases
+-- what the definitions give is what 01 says, in every case, and the runs start where a caller by the ABI may
+pub record Hold : Type 0 where
+  pub table : map (λ (c : Case). c .given) cases ≡ map (λ (c : Case). c .expected) cases
+  pub entered : Entry entry

@@ -1,151 +1,180 @@
--- A cast's parts as records are those of codegen's definitions.
-use Prim.Native.Nat.{ℕ, zero, suc, _≤_, _<_}
+-- A cast's parts, as the code holds them, are those of codegen's definitions.
+use Prim.Native.Nat.{ℕ, _+_, _≤_, _<_}
 use mathlib.Core.Path.{_≡_, refl, sym, ap, _∙_}
 use mathlib.Core.Bool.{Bool, true, false, cond, not, _&&_, _||_, Bool·beq}
 use mathlib.Core.List.{List, [], _∷_, _++_, append-nil, append-assoc}
 use native.Mathlib.Omega.{arith}
-use borrow.Author.Tests.{lt-leb, le-leb, eq-eqb, ne-eqb}
+use borrow.Author.Tests.{lt-leb, le-leb}
 use lib.Dec.{eqb, leb}
-use lib.ListN.{length, take}
+use lib.ListN.{length, length-append}
 use Rattle.ir.specs.declared.VarId.{VarId}
 use Rattle.ir.specs.declared.Operand.{Operand as IrOp}
-use Rattle.ir.specs.Types.{Result, ok, refused, _>>=_, isFloat}
+use Rattle.ir.specs.Types.{Result, ok, refused, _>>=_, typeSize, isFloat}
 use Rattle.x86.specs.declared.register.Register.{Register}
 use Rattle.x86.specs.declared.enums.Size.{Size}
 use Rattle.x86.specs.declared.enums.Operand.{Operand}
 use Rattle.x86.specs.declared.enums.ConvOp.{ConvOp}
-use Rattle.x86.specs.declared.enums.ExtendOp.{ExtendOp}
 use Rattle.x86.specs.declared.enums.Instruction.{Instruction}
 use Rattle.x86.specs.Registers.{xmm, RAX}
-use Rattle.x86.specs.Records.{Record, recordOf}
 use Rattle.codegen.specs.Context.{Context}
-use Rattle.codegen.specs.Utils.{sizeFrom, varSize, convertVar}
-use Rattle.codegen.specs.Instructions.{Kind, Source, move, castOperand, widened, converted, extended, castBetween}
-use Rattle.codegen.proofs.Shapes.{source-brief}
-use Rattle.records.specs.Records.{recordsOf, encoded}
-use Rattle.records.proofs.Written.{list-length}
-use Rattle.casts.specs.Casts.{Brought, brought, broughtOf, broughtAll, widenedRecords, convertedRecords, extendedRecords, toFloat, toInteger, betweenRecords, castRecords}
+use Rattle.codegen.specs.Utils.{sizeFrom, varSize, convertVar, convertOperand, loadOperand, loadValue}
+use Rattle.codegen.specs.Instructions as spec
+use Rattle.codegen.specs.Instructions.{source, operandKind, generateCopy, castOperand, widened, converted, extended, castBetween, isCopy, generateCast}
+use Rattle.utils.specs.declared.CountResult.{CountResult}
+use Rattle.utils.specs.Sources.{loadOf}
+use Rattle.utils.specs.Makes.{listed, Makes}
+use Rattle.utils.proofs.Sources.{rung}
+use Rattle.casts.specs.declared.Source.{Source}
+use Rattle.casts.specs.declared.Stored.{Stored}
+use Rattle.casts.specs.Casts.{sourceFrom, constantSize, movzx, movsxd, sourceRecords, sourceSays, castSource, lookStore, storeOp, convertedOf, isExtended, extendedOf, integerToFloat, floatToInteger}
 
--- ---- how many of two records
+-- ---- the source
 
-pub both-of : (n : ℕ) (a b : Record) → (n ≡ 0 → ⊥) → (n ≡ 1 → ⊥) → take n (a ∷ b ∷ []) ≡ a ∷ b ∷ []
-both-of zero a b h k = absurd (h refl)
-both-of (suc zero) a b h k = absurd (k refl)
-both-of (suc (suc zero)) a b h k = refl
-both-of (suc (suc (suc n))) a b h k = refl
-
-pub one-of : (n : ℕ) (a b : Record) → n ≤ 1 → (n ≡ 0 → ⊥) → take n (a ∷ b ∷ []) ≡ a ∷ []
-one-of zero a b h k = absurd (k refl)
-one-of (suc zero) a b h k = refl
-one-of (suc (suc n)) a b h k = absurd (omega arith)
-
-at-most-one : (n : ℕ) (a b : Record) → length (take n (a ∷ b ∷ [])) ≤ 1 → n ≤ 1
-at-most-one zero a b h = omega arith
-at-most-one (suc zero) a b h = omega arith
-at-most-one (suc (suc zero)) a b h = absurd (omega arith)
-at-most-one (suc (suc (suc n))) a b h = absurd (omega arith)
-
--- ---- lists of records
-
-recordsOf-append : (a b : List Instruction) → recordsOf (a ++ b) ≡ recordsOf a ++ recordsOf b
-unfolding recordsOf
-recordsOf-append [] b = refl
-recordsOf-append (i ∷ a) b = ap (λ (x : List Record). recordOf i ∷ x) (recordsOf-append a b)
-
--- a source has at most one record
-pub few : (ctx : Context) (op : IrOp) (n k : ℕ) (a b : Record) {x : Operand} {m : ℕ} → broughtAll (castOperand ctx op n) ≡ ok (brought (take k (a ∷ b ∷ [])) x m) → k ≤ 1
-few ctx op n k a b {x} {m} e = go (castOperand ctx op n) refl
+-- an operand that is converted where it stands
+in-place : (r : Result Operand) (float : Bool) (n : ℕ)
+    → ((r >>= λ x. ok (source [] x n)) >>= λ s. ok (widened float s))
+    ≡ (r >>= λ x. ok (sourceSays (record { operand = x; constant = false; byte = not float && eqb n 1; size = n })))
+unfolding sourceRecords
+in-place (ok x) float n = ap ok (go (not float && eqb n 1))
   where
-    go : (r : Result Source) → castOperand ctx op n ≡ r → k ≤ 1
-    go (ok s) f =
-        let h : length (s .records) ≤ 1 = source-brief ctx op n .of s f in
-        let g : ok (broughtOf s) ≡ ok (brought (take k (a ∷ b ∷ [])) x m) = sym (ap broughtAll f) ∙ e in
-        let q : broughtOf s ≡ brought (take k (a ∷ b ∷ [])) x m = let z = g in cc in
-        let l : recordsOf (s .records) ≡ take k (a ∷ b ∷ []) = ap (λ (v : Brought). v .records) q in
-        at-most-one k a b (omega (arith, list-length (s .records), ap length l))
-    go (refused q) f =
-        let g : refused q ≡ ok (brought (take k (a ∷ b ∷ [])) x m) = sym (ap broughtAll f) ∙ e in
-        let z : _≡_ {A = ℕ} 0 1 = cc in omega arith
-
--- ---- the parts
-
-widened-records : (float : Bool) (s : Source) → widenedRecords float (broughtOf s) ≡ broughtOf (widened float s)
-unfolding recordsOf
-widened-records float s = go (not float && eqb (s .size) 1)
-  where
-    go : (b : Bool) → cond b (brought (recordsOf (s .records) ++ recordOf (Instruction.Extend ExtendOp.Movzx RAX (s .operand) Size.U8 Size.U64) ∷ []) (Operand.Reg RAX) 8) (broughtOf s)
-        ≡ broughtOf (cond b (record { records = s .records ++ Instruction.Extend ExtendOp.Movzx RAX (s .operand) Size.U8 Size.U64 ∷ []; operand = Operand.Reg RAX; size = 8 }) s)
-    go true = ap (λ (rs : List Record). brought rs (Operand.Reg RAX) 8) (sym (recordsOf-append (s .records) _))
+    go : (b : Bool) → cond b (source (movzx x ∷ []) (Operand.Reg RAX) 8) (source [] x n)
+        ≡ source (cond b (movzx x ∷ []) []) (cond b (Operand.Reg RAX) x) (cond b 8 n)
+    go true = refl
     go false = refl
+in-place (refused m) float n = refl
 
--- what follows the look-ups of dest
-behind : {A : Type 0} (r : Result A) (f : A → List Record) (g : A → List Instruction) → ((a : A) → f a ≡ recordsOf (g a)) →
-    (r >>= λ a. ok (f a)) ≡ encoded (r >>= λ a. ok (g a))
-behind (ok a) f g h = ap ok (h a)
-behind (refused n) f g h = refl
+same-kind : {k q : spec.Kind} → ok q ≡ ok k → k ≡ q
+same-kind e = let z = e in cc
 
-lookups : (ctx : Context) (dest : VarId) (f : Operand → Size → List Record) (g : Operand → Size → List Instruction) → ((x : Operand) (z : Size) → f x z ≡ recordsOf (g x z)) →
-    (convertVar ctx dest >>= λ x. varSize dest >>= λ z. ok (f x z)) ≡ encoded (convertVar ctx dest >>= λ x. varSize dest >>= λ z. ok (g x z))
-lookups ctx dest f g h = go (convertVar ctx dest)
+pub source-found : (ctx : Context) (op : IrOp) (k : spec.Kind) → operandKind ctx op ≡ ok k
+    → (convertOperand ctx op >>= λ x. ok (sourceSays (sourceFrom op k x))) ≡ castSource ctx op k
+unfolding operandKind castOperand convertOperand loadOperand loadValue sourceRecords
+source-found ctx (IrOp.Var v) k e = sym (in-place (convertVar ctx v) (k .float) (k .size))
+source-found ctx (IrOp.Int n true unsigned) k e = rw (same-kind e)
+source-found ctx (IrOp.Int n false unsigned) k e = rw (same-kind e)
+source-found ctx (IrOp.Float f) k e = sym (in-place (convertOperand ctx (IrOp.Float f)) (k .float) (k .size))
+source-found ctx (IrOp.Bool b) k e = rw (same-kind e)
+source-found ctx (IrOp.Address v) k e = refl
+source-found ctx (IrOp.DataAddress d) k e = refl
+source-found ctx IrOp.Null k e = sym (in-place (ok (Operand.Imm 0)) (k .float) (k .size))
+
+pub source-count : (s : Source) → cond (s .constant) 1 0 + cond (s .byte) 1 0 ≡ length (sourceRecords s)
+unfolding sourceRecords
+source-count s = go (s .constant) (s .byte) _ _
   where
-    go : (r : Result Operand) → (r >>= λ x. varSize dest >>= λ z. ok (f x z)) ≡ encoded (r >>= λ x. varSize dest >>= λ z. ok (g x z))
-    go (ok x) = behind (varSize dest) (f x) (g x) (h x)
-    go (refused n) = refl
+    go : (a b : Bool) (i j : Instruction) → cond a 1 0 + cond b 1 0 ≡ length (cond a (i ∷ []) [] ++ cond b (j ∷ []) [])
+    go true true i j = refl
+    go true false i j = refl
+    go false true i j = refl
+    go false false i j = refl
 
-converted-records : (ctx : Context) (dest : VarId) (s : Source) (op : ConvOp) (reg : Register) (size : Size)
-    → convertedRecords ctx dest (broughtOf s) op reg size ≡ encoded (converted ctx dest s op reg size)
-unfolding recordsOf
-converted-records ctx dest s op reg size = lookups ctx dest _ _ (λ x z. sym (recordsOf-append (s .records) _))
+-- .. which are a load, Movzx, both or none
+module _ (s : Source) where
+  pub both-records : s .constant ≡ true → s .byte ≡ true → sourceRecords s ≡ loadOf RAX (s .operand) (constantSize (s .size)) ∷ movzx (Operand.Reg RAX) ∷ []
+  unfolding sourceRecords
+  both-records e f = rw (e, f)
 
-extended-records : (ctx : Context) (dest : VarId) (s : Source) → extendedRecords ctx dest (broughtOf s) ≡ encoded (extended ctx dest s)
-unfolding recordsOf
-extended-records ctx dest s = lookups ctx dest _ _ (λ x z. go x z (eqb (s .size) 8))
-  where
-    wide : Instruction
-    wide = Instruction.Extend ExtendOp.Movsxd RAX (s .operand) Size.U32 Size.U64
+  pub load-record : s .constant ≡ true → s .byte ≡ false → sourceRecords s ≡ loadOf RAX (s .operand) (constantSize (s .size)) ∷ []
+  unfolding sourceRecords
+  load-record e f = rw (e, f)
 
-    go : (x : Operand) (z : Size) (b : Bool) → recordsOf (s .records) ++ cond b [] (recordOf wide ∷ []) ++ recordOf (move x (Operand.Reg RAX) z) ∷ []
-        ≡ recordsOf (s .records ++ cond b [] (wide ∷ []) ++ move x (Operand.Reg RAX) z ∷ [])
-    go x z true = simp recordsOf-append
-    go x z false = simp recordsOf-append
+  pub byte-record : s .constant ≡ false → s .byte ≡ true → sourceRecords s ≡ movzx (s .operand) ∷ []
+  unfolding sourceRecords
+  byte-record e f = rw (e, f)
 
-between-records : (ctx : Context) (dest : VarId) (s : Source) (a b : Bool) (n : ℕ) → betweenRecords ctx dest (broughtOf s) a b n ≡ encoded (castBetween ctx dest s a b n)
-unfolding betweenRecords castBetween
-between-records ctx dest s true true n = converted-records ctx dest s (toFloat true n) (xmm 0) Size.NoSize
-between-records ctx dest s false true n = go (sizeFrom (s .size))
-  where
-    go : (r : Result Size) → (r >>= λ z. convertedRecords ctx dest (broughtOf s) (toFloat false n) (xmm 0) z) ≡ encoded (r >>= λ z. converted ctx dest s (toFloat false n) (xmm 0) z)
-    go (ok z) = converted-records ctx dest s (toFloat false n) (xmm 0) z
-    go (refused q) = refl
-between-records ctx dest s true false n = go (varSize dest)
-  where
-    go : (r : Result Size) → (r >>= λ z. convertedRecords ctx dest (broughtOf s) (toInteger (s .size)) RAX z) ≡ encoded (r >>= λ z. converted ctx dest s (toInteger (s .size)) RAX z)
-    go (ok z) = converted-records ctx dest s (toInteger (s .size)) RAX z
-    go (refused q) = refl
-between-records ctx dest s false false n = extended-records ctx dest s
+  pub no-record : s .constant ≡ false → s .byte ≡ false → sourceRecords s ≡ []
+  unfolding sourceRecords
+  no-record e f = rw (e, f)
 
-pub cast-records : (ctx : Context) (dest : VarId) (src : IrOp) (k : Kind) (n : ℕ) → castRecords ctx dest src k n
-    ≡ encoded (castOperand ctx src (k .size) >>= λ s. castBetween ctx dest (widened (k .float) s) (k .float) (isFloat (dest .ty)) n)
-unfolding castRecords
-cast-records ctx dest src k n = go (castOperand ctx src (k .size))
-  where
-    go : (r : Result Source) → (broughtAll r >>= λ s. betweenRecords ctx dest (widenedRecords (k .float) s) (k .float) (isFloat (dest .ty)) n)
-        ≡ encoded (r >>= λ s. castBetween ctx dest (widened (k .float) s) (k .float) (isFloat (dest .ty)) n)
-    go (ok s) =
-        ap (λ (b : Brought). betweenRecords ctx dest b (k .float) (isFloat (dest .ty)) n) (widened-records (k .float) s)
-        ∙ between-records ctx dest (widened (k .float) s) (k .float) (isFloat (dest .ty)) n
-    go (refused q) = refl
+-- ---- codegen's lists by their look-ups
 
--- ---- between integers, by the source's size
+pub converted-looked : (ctx : Context) (dest : VarId) (s : spec.Source) (op : ConvOp) (reg : Register) (by : Size)
+    → converted ctx dest s op reg by ≡ listed (lookStore ctx dest) (convertedOf s op reg by (storeOp (isFloat (dest .ty))))
+converted-looked ctx dest s op reg by = rung (convertVar ctx dest) _ _ _ (λ v. rung (varSize dest) _ _ _ (λ z. refl))
 
-abbrev pub wide : Operand → Record
-wide x = recordOf (Instruction.Extend ExtendOp.Movsxd RAX x Size.U32 Size.U64)
+cond-not : {A : Type 0} (b : Bool) (x y : A) → cond b x y ≡ cond (not b) y x
+cond-not true x y = refl
+cond-not false x y = refl
 
-pub eight : (rs : List Record) (n : ℕ) (w m : Record) → n ≡ 8 → rs ++ cond (eqb n 8) [] (w ∷ []) ++ m ∷ [] ≡ rs ++ m ∷ []
-eight rs n w m e = rw (eq-eqb n 8 e) (ap (λ (x : List Record). x ++ m ∷ []) (append-nil rs))
+pub extended-looked : (ctx : Context) (dest : VarId) (s : spec.Source) → extended ctx dest s ≡ listed (lookStore ctx dest) (extendedOf s)
+extended-looked ctx dest s = rung (convertVar ctx dest) _ _ _ (λ v. rung (varSize dest) _ _ _ (λ z. ap (λ (w : List Instruction). ok (s .records ++ w ++ spec.move v (Operand.Reg RAX) z ∷ [])) (cond-not (eqb (s .size) 8) [] (movsxd (s .operand) ∷ []))))
 
-pub four : (rs : List Record) (n : ℕ) (w m : Record) → (n ≡ 8 → ⊥) → rs ++ cond (eqb n 8) [] (w ∷ []) ++ m ∷ [] ≡ rs ++ w ∷ m ∷ []
-four rs n w m e = rw (ne-eqb n 8 e) (append-assoc rs (w ∷ []) (m ∷ []))
+-- ---- how many records they are
+
+pub two-behind : (is : List Instruction) (i j : Instruction) → length (is ++ i ∷ j ∷ []) ≡ length is + 2
+two-behind is i j = length-append is (i ∷ j ∷ [])
+
+pub extended-length : (is : List Instruction) (b : Bool) (i j : Instruction) → length (is ++ cond b (i ∷ []) [] ++ j ∷ []) ≡ length is + 1 + cond b 1 0
+extended-length is true i j = length-append (is ++ i ∷ []) (j ∷ []) ∙ omega (arith, length-append is (i ∷ []))
+extended-length is false i j = length-append (is ++ []) (j ∷ []) ∙ omega (arith, length-append is [])
+
+-- what is behind the source's records
+pub widened-behind : (s : spec.Source) (t : Stored) → isExtended s ≡ true → s .records ++ (movsxd (s .operand) ∷ spec.move (t .var) (Operand.Reg RAX) (t .size) ∷ []) ≡ extendedOf s t
+widened-behind s t e = rw e (sym (append-assoc (s .records) (movsxd (s .operand) ∷ []) _))
+
+pub moved-behind : (s : spec.Source) (t : Stored) → isExtended s ≡ false → s .records ++ (spec.move (t .var) (Operand.Reg RAX) (t .size) ∷ []) ≡ extendedOf s t
+moved-behind s t e = rw e (ap (λ (x : List Instruction). x ++ spec.move (t .var) (Operand.Reg RAX) (t .size) ∷ []) (sym (append-nil (s .records))))
+
+-- a number of records under another name
+pub as-many : {writes : Bool} {list : Result (List Instruction)} {at n m : ℕ} {old new : List ℕ} → Makes writes list at old new (CountResult.Records m) → n ≡ m
+    → Makes writes list at old new (CountResult.Records n)
+as-many h e = rw e h
+
+-- ---- between the kinds
+
+pub to-float : (ctx : Context) (dest : VarId) (s : spec.Source) (n : ℕ) {by : Size} → sizeFrom (s .size) ≡ ok by
+    → castBetween ctx dest s false true n ≡ converted ctx dest s (integerToFloat n) (xmm 0) by
+unfolding castBetween
+to-float ctx dest s n e = rw e
+
+pub no-float : (ctx : Context) (dest : VarId) (s : spec.Source) (n : ℕ) {m : ℕ} → sizeFrom (s .size) ≡ refused m → castBetween ctx dest s false true n ≡ refused m
+unfolding castBetween
+no-float ctx dest s n e = rw e
+
+pub to-integer : (ctx : Context) (dest : VarId) (s : spec.Source) (n : ℕ) {by : Size} → varSize dest ≡ ok by
+    → castBetween ctx dest s true false n ≡ converted ctx dest s (floatToInteger (s .size)) RAX by
+unfolding castBetween
+to-integer ctx dest s n e = rw e
+
+pub no-integer : (ctx : Context) (dest : VarId) (s : spec.Source) (n : ℕ) {m : ℕ} → varSize dest ≡ refused m → castBetween ctx dest s true false n ≡ refused m
+unfolding castBetween
+no-integer ctx dest s n e = rw e
+
+-- ---- the cast
+
+module _ (ctx : Context) (dest : VarId) (src : IrOp) where
+  pub no-kind : {m : ℕ} → operandKind ctx src ≡ refused m → generateCast ctx dest src ≡ refused m
+  unfolding generateCast
+  no-kind e = rw e
+
+  module _ {k : spec.Kind} (e : operandKind ctx src ≡ ok k) where
+    pub no-size : {m : ℕ} → typeSize (dest .ty) ≡ refused m → generateCast ctx dest src ≡ refused m
+    unfolding generateCast
+    no-size f = rw (e, f)
+
+    module _ {n : ℕ} (f : typeSize (dest .ty) ≡ ok n) where
+      pub is-copied : isCopy k (isFloat (dest .ty)) n ≡ true → generateCast ctx dest src ≡ generateCopy ctx dest src
+      unfolding generateCast
+      is-copied g = rw (e, f, g)
+
+      module _ (g : isCopy k (isFloat (dest .ty)) n ≡ false) where
+        pub is-cast : {s : spec.Source} → castSource ctx src k ≡ ok s → generateCast ctx dest src ≡ castBetween ctx dest s (k .float) (isFloat (dest .ty)) n
+        unfolding generateCast
+        is-cast {s} h = rw (e, f, g) (go (castOperand ctx src (k .size)) h)
+          where
+            go : (r : Result spec.Source) → (r >>= λ x. ok (widened (k .float) x)) ≡ ok s
+                → (r >>= λ x. castBetween ctx dest (widened (k .float) x) (k .float) (isFloat (dest .ty)) n) ≡ castBetween ctx dest s (k .float) (isFloat (dest .ty)) n
+            go (ok x) q = let z : widened (k .float) x ≡ s = let y = q in cc in rw z
+            go (refused m) q = let z : _≡_ {A = ℕ} 0 1 = let y = q in cc in absurd (omega arith)
+
+        pub no-source : {m : ℕ} → castSource ctx src k ≡ refused m → generateCast ctx dest src ≡ refused m
+        unfolding generateCast
+        no-source {m} h = rw (e, f, g) (go (castOperand ctx src (k .size)) h)
+          where
+            go : (r : Result spec.Source) → (r >>= λ x. ok (widened (k .float) x)) ≡ refused m
+                → (r >>= λ x. castBetween ctx dest (widened (k .float) x) (k .float) (isFloat (dest .ty)) n) ≡ refused m
+            go (ok x) q = let z : _≡_ {A = ℕ} 0 1 = let y = q in cc in absurd (omega arith)
+            go (refused p) q = let z : p ≡ m = let y = q in cc in ap refused z
 
 -- ---- whether a cast is a copy
 

@@ -1,11 +1,11 @@
--- The parts of a cast as records of eight cells, which the code holds: proofs/Casts.antt shows that they are those of codegen's definitions.
+-- Auxiliary: a cast's parts as the code holds them. A source is codegen's `castOperand` and `widened` by `source-found`; a conversion's and an extension's look-ups and records are codegen's `converted` and `extended` by `converted-looked` and `extended-looked` (proofs/Casts).
 use Prim.Native.Nat.{ℕ}
 use mathlib.Core.Bool.{Bool, true, false, cond, not, _&&_}
 use mathlib.Core.List.{List, [], _∷_, _++_}
 use lib.Dec.{eqb}
 use Rattle.ir.specs.declared.VarId.{VarId}
 use Rattle.ir.specs.declared.Operand.{Operand as IrOp}
-use Rattle.ir.specs.Types.{Result, ok, refused, _>>=_, isFloat}
+use Rattle.ir.specs.Types.{Result, ok, refused, _>>=_}
 use Rattle.x86.specs.declared.register.Register.{Register}
 use Rattle.x86.specs.declared.enums.Size.{Size}
 use Rattle.x86.specs.declared.enums.Operand.{Operand}
@@ -13,69 +13,103 @@ use Rattle.x86.specs.declared.enums.BinOp.{BinOp}
 use Rattle.x86.specs.declared.enums.ConvOp.{ConvOp}
 use Rattle.x86.specs.declared.enums.ExtendOp.{ExtendOp}
 use Rattle.x86.specs.declared.enums.Instruction.{Instruction}
-use Rattle.x86.specs.Registers.{xmm, RAX}
-use Rattle.x86.specs.Records.{Record, recordOf}
+use Rattle.x86.specs.Registers.{RAX}
 use Rattle.codegen.specs.Context.{Context}
-use Rattle.codegen.specs.Utils.{sizeFrom, varSize, convertVar, convertOperand, loadOperand}
-use Rattle.codegen.specs.Instructions.{Kind, Source, source, move, castOperand}
-use Rattle.records.specs.Records.{recordsOf}
+use Rattle.codegen.specs.Utils.{varSize, convertVar}
+use Rattle.codegen.specs.Instructions as spec
+use Rattle.codegen.specs.Instructions.{source, move, castOperand, widened}
+use Rattle.utils.specs.Sources.{loadOf}
+use Rattle.casts.specs.declared.Source.{Source}
+use Rattle.casts.specs.declared.SourceResult.{SourceResult}
+use Rattle.casts.specs.declared.Stored.{Stored}
+use Rattle.casts.specs.declared.StoredResult.{StoredResult}
 
--- a cast's source where it is converted
-pub record Brought : Type 0 where
-  pub records : List Record
-  pub operand : Operand
-  pub size : ℕ
+-- ---- the source
 
-abbrev pub brought : List Record → Operand → ℕ → Brought
-brought rs x n = record { records = rs; operand = x; size = n }
+-- the constants that go through RAX
+abbrev pub isConstant : IrOp → Bool
+isConstant (IrOp.Var v) = false
+isConstant (IrOp.Int n short unsigned) = true
+isConstant (IrOp.Float k) = false
+isConstant (IrOp.Bool b) = true
+isConstant (IrOp.Address v) = false
+isConstant (IrOp.DataAddress k) = false
+isConstant IrOp.Null = false
 
-abbrev pub broughtOf : Source → Brought
-broughtOf s = brought (recordsOf (s .records)) (s .operand) (s .size)
+-- one byte that is no float
+abbrev pub isByte : spec.Kind → Bool
+isByte k = not (k .float) && eqb (k .size) 1
 
-abbrev pub broughtAll : Result Source → Result Brought
-broughtAll (ok s) = ok (broughtOf s)
-broughtAll (refused n) = refused n
+abbrev pub sourceFrom : IrOp → spec.Kind → Operand → Source
+sourceFrom op k x = record { operand = x; constant = isConstant op; byte = isByte k; size = k .size }
 
--- the two ways of `castOperand`: a source that is converted where it stands, and one that goes through RAX
-abbrev pub inPlace : Context → IrOp → ℕ → Result Source
-inPlace ctx op n = convertOperand ctx op >>= λ x. ok (source [] x n)
+-- a constant's load is of its own size
+abbrev pub constantSize : ℕ → Size
+constantSize n = cond (eqb n 1) Size.U8 (cond (eqb n 4) Size.U32 Size.U64)
 
-abbrev pub throughRax : Context → IrOp → Size → ℕ → Result Source
-throughRax ctx op by n = loadOperand ctx RAX op by >>= λ load. ok (source (load ∷ []) (Operand.Reg RAX) n)
+abbrev pub movzx : Operand → Instruction
+movzx x = Instruction.Extend ExtendOp.Movzx RAX x Size.U8 Size.U64
 
-abbrev pub widenedRecords : Bool → Brought → Brought
-widenedRecords float s =
-    cond (not float && eqb (s .size) 1)
-    (brought (s .records ++ recordOf (Instruction.Extend ExtendOp.Movzx RAX (s .operand) Size.U8 Size.U64) ∷ []) (Operand.Reg RAX) 8) s
+-- a constant's load, then Movzx of one byte
+unfoldable pub sourceRecords : Source → List Instruction
+sourceRecords s =
+    cond (s .constant) (loadOf RAX (s .operand) (constantSize (s .size)) ∷ []) [] ++ cond (s .byte) (movzx (cond (s .constant) (Operand.Reg RAX) (s .operand)) ∷ []) []
 
-abbrev pub convertedRecords : Context → VarId → Brought → ConvOp → Register → Size → Result (List Record)
-convertedRecords ctx dest s op reg size = do
-  var ← convertVar ctx dest
-  stored ← varSize dest
-  ok (s .records ++ recordOf (Instruction.Convert op reg (s .operand) size)
-      ∷ recordOf (Instruction.Binary (cond (isFloat (dest .ty)) BinOp.StoreF BinOp.Mov) var (Operand.Reg reg) stored) ∷ [])
+-- the operand that is converted once these have run, and its size in bytes
+abbrev pub sourceOperand : Source → Operand
+sourceOperand s = cond (s .constant) (Operand.Reg RAX) (cond (s .byte) (Operand.Reg RAX) (s .operand))
 
-abbrev pub extendedRecords : Context → VarId → Brought → Result (List Record)
-extendedRecords ctx dest s = do
+abbrev pub sourceSize : Source → ℕ
+sourceSize s = cond (s .byte) 8 (s .size)
+
+abbrev pub sourceSays : Source → spec.Source
+sourceSays s = source (sourceRecords s) (sourceOperand s) (sourceSize s)
+
+abbrev pub sourceResultSays : SourceResult → Result spec.Source
+sourceResultSays (SourceResult.Is s) = ok (sourceSays s)
+sourceResultSays (SourceResult.Refused n) = refused n
+
+-- the same in codegen's words
+abbrev pub castSource : Context → IrOp → spec.Kind → Result spec.Source
+castSource ctx op k = castOperand ctx op (k .size) >>= λ s. ok (widened (k .float) s)
+
+-- ---- dest
+
+abbrev pub storedSays : StoredResult → Result Stored
+storedSays (StoredResult.Is t) = ok t
+storedSays (StoredResult.Refused n) = refused n
+
+abbrev pub lookStore : Context → VarId → Result Stored
+lookStore ctx dest = do
   var ← convertVar ctx dest
   size ← varSize dest
-  ok (s .records ++ cond (eqb (s .size) 8) [] (recordOf (Instruction.Extend ExtendOp.Movsxd RAX (s .operand) Size.U32 Size.U64) ∷ [])
-      ++ recordOf (move var (Operand.Reg RAX) size) ∷ [])
+  ok (record { var = var; size = size })
 
-abbrev pub toFloat : Bool → ℕ → ConvOp
-toFloat true n = cond (eqb n 8) ConvOp.Cvtss2sd ConvOp.Cvtsd2ss
-toFloat false n = cond (eqb n 8) ConvOp.Cvtsi2sd ConvOp.Cvtsi2ss
+abbrev pub storeOp : Bool → BinOp
+storeOp float = cond float BinOp.StoreF BinOp.Mov
 
-abbrev pub toInteger : ℕ → ConvOp
-toInteger n = cond (eqb n 8) ConvOp.Cvttsd2si ConvOp.Cvttss2si
+-- ---- records
 
-unfoldable pub betweenRecords : Context → VarId → Brought → Bool → Bool → ℕ → Result (List Record)
-betweenRecords ctx dest s true true n = convertedRecords ctx dest s (toFloat true n) (xmm 0) Size.NoSize
-betweenRecords ctx dest s false true n = sizeFrom (s .size) >>= λ size. convertedRecords ctx dest s (toFloat false n) (xmm 0) size
-betweenRecords ctx dest s true false n = varSize dest >>= λ size. convertedRecords ctx dest s (toInteger (s .size)) RAX size
-betweenRecords ctx dest s false false n = extendedRecords ctx dest s
+abbrev pub convertedOf : spec.Source → ConvOp → Register → Size → BinOp → Stored → List Instruction
+convertedOf s op reg by store t = s .records ++ Instruction.Convert op reg (s .operand) by ∷ Instruction.Binary store (t .var) (Operand.Reg reg) (t .size) ∷ []
 
--- a cast that is no copy
-unfoldable pub castRecords : Context → VarId → IrOp → Kind → ℕ → Result (List Record)
-castRecords ctx dest src k n =
-    broughtAll (castOperand ctx src (k .size)) >>= λ s. betweenRecords ctx dest (widenedRecords (k .float) s) (k .float) (isFloat (dest .ty)) n
+abbrev pub movsxd : Operand → Instruction
+movsxd x = Instruction.Extend ExtendOp.Movsxd RAX x Size.U32 Size.U64
+
+-- between integers, what widens a source behind its records: nothing where RAX has eight bytes already, else Movsxd of four
+abbrev pub isExtended : spec.Source → Bool
+isExtended s = not (eqb (s .size) 8)
+
+abbrev pub extendedOf : spec.Source → Stored → List Instruction
+extendedOf s t = s .records ++ cond (isExtended s) (movsxd (s .operand) ∷ []) [] ++ move (t .var) (Operand.Reg RAX) (t .size) ∷ []
+
+-- ---- conversions, by a float's size in bytes
+
+abbrev pub floatToFloat : ℕ → ConvOp
+floatToFloat n = cond (eqb n 8) ConvOp.Cvtss2sd ConvOp.Cvtsd2ss
+
+abbrev pub integerToFloat : ℕ → ConvOp
+integerToFloat n = cond (eqb n 8) ConvOp.Cvtsi2sd ConvOp.Cvtsi2ss
+
+abbrev pub floatToInteger : ℕ → ConvOp
+floatToInteger n = cond (eqb n 8) ConvOp.Cvttsd2si ConvOp.Cvttss2si

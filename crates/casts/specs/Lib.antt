@@ -1,2 +1,1 @@
 pub mod Casts
-pub mod Says

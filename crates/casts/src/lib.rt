@@ -1,63 +1,150 @@
-// Krc's codegen/instructions.rs, the casts. A source is brought to where it is converted, then it is converted and stored.
-use instructions::Kind;
-use instructions::Kinded;
+// Krc's codegen/instructions.rs, casts: `generate_cast`.
 use instructions::generate_copy;
-use instructions::mov;
-use instructions::operand_kind;
 use ir::Operand as IrOp;
-use ir::VarId;
+use ir::read::operand_at;
+use ir::read::type_at;
 use ir::types::Number;
-use records::List;
-use records::Records;
-use utils::Loaded;
-use utils::Placed;
-use utils::Sized;
-use utils::convert_operand;
-use utils::convert_var;
-use utils::load_operand;
+use utils::CountResult;
+use utils::OperandResult;
+use utils::SizeResult;
+use utils::convert_operand_at;
+use utils::convert_var_at;
+use utils::kinds::Kind;
+use utils::kinds::KindResult;
+use utils::kinds::operand_kind;
+use utils::mov;
+use utils::put_load;
 use utils::size_from;
-use utils::var_size;
+use utils::var_size_at;
 use x86::enums::BinOp;
 use x86::enums::ConvOp;
 use x86::enums::ExtendOp;
 use x86::enums::Instruction;
 use x86::enums::Operand;
 use x86::enums::Size;
-use x86::record::Record;
-use x86::record::record_of;
+use x86::record::put_instruction;
 use x86::register::Register;
 ghost use mathlib.Core.Path.{_≡_};
-ghost use mathlib.Core.Bool.{cond};
-ghost use mathlib.Core.List.{[], _∷_, _++_};
-ghost use Prim.Native.Nat.{_≤_};
+ghost use Prim.Native.Nat.{_+_, _*_, _≤_};
+ghost use mathlib.Core.Bool.{true, false, cond};
+ghost use lib.ListN.{length};
+ghost use Rattle.cells.specs.Cells.{cells, write};
 ghost use Rattle.ir.specs.Types.{ok};
-ghost use Rattle.x86.specs.Registers.{RAX};
-ghost use lib.ListN.{take};
-ghost use Rattle.x86.specs.Records.{recordOf};
-ghost use Rattle.x86.specs.Says.{recordSays};
-ghost use Rattle.codegen.specs.Instructions.{castOperand, isCopy, generateCast};
+ghost use Rattle.ir.specs.Function.{varAt, operandAt};
+ghost use Rattle.x86.specs.Records.{listBytes};
+ghost use Rattle.codegen.specs.Instructions.{operandKind, converted, extended, castBetween, isCopy, generateCast};
 ghost use Rattle.utils.specs.Answers.{lent};
-ghost use Rattle.records.specs.Records.{recordsSay, encoded};
-ghost use Rattle.instructions.specs.Says.{kindSays};
-ghost use Rattle.casts.specs.Says.{sourceSays, sourcedSays};
-ghost use Rattle.casts.specs.Casts.{inPlace, throughRax, toFloat, toInteger, broughtAll, widenedRecords, convertedRecords, extendedRecords, betweenRecords, castRecords};
+ghost use Rattle.utils.specs.Kinds.{kindSays};
+ghost use Rattle.utils.specs.Makes.{Makes, Ready};
+ghost use Rattle.casts.specs.Casts.{isConstant, isByte, constantSize, movzx, sourceRecords, sourceOperand, sourceSize, sourceSays, sourceResultSays, castSource, storedSays, lookStore, storeOp, convertedOf, isExtended, extendedOf, floatToFloat, integerToFloat, floatToInteger};
 
-// A cast's source where it is converted: `count` of the two records that bring it there, the operand, and its size in bytes.
+// What is cast: its operand; whether it is a constant, which goes through RAX; whether it is one byte that is no float, which is widened there; and its
+// size in bytes before that.
 pub struct Source {
-    pub count: u64,
-    pub a: Record,
-    pub b: Record,
     pub operand: Operand,
+    pub constant: bool,
+    pub byte: bool,
     pub size: u64,
 }
 
-pub enum Sourced {
+pub enum SourceResult {
     Is(Source),
     Refused(u64),
 }
 
+// Dest's slot and size.
+pub struct Stored {
+    pub var: Operand,
+    pub size: Size,
+}
+
+pub enum StoredResult {
+    Is(Stored),
+    Refused(u64),
+}
+
+fn is_constant(op: IrOp) -> bool
+    ensures { λ r. ⌜ r ≡ isConstant op ⌝ }
+{
+    match op {
+        IrOp::Var(_) => false,
+        IrOp::Int(_, _, _) => true,
+        IrOp::Float(_) => false,
+        IrOp::Bool(_) => true,
+        IrOp::Address(_) => false,
+        IrOp::DataAddress(_) => false,
+        IrOp::Null => false,
+    }
+}
+
+fn is_byte(k: Kind) -> bool
+    ensures { λ r. ⌜ r ≡ isByte (kindSays k) ⌝ }
+{
+    if k.float { false } else { k.size == 1 }
+}
+
+fn cast_operand(tables: &[u8], offsets: &[u64], s: &[u8], k: usize, kind: Kind) -> SourceResult
+    requires { ⌜ k + 13 ≤ cells (now s) ⌝ }
+    requires { ⌜ operandKind (lent (now tables) (now offsets)) (operandAt (now s) (k + 5)) ≡ ok (kindSays kind) ⌝ }
+    ensures { λ r. ⌜ sourceResultSays r ≡ castSource (lent (now (tables .entry)) (now (offsets .entry))) (operandAt (now (s .entry)) (k + 5)) (kindSays kind) ⌝ }
+{
+    match convert_operand_at(tables, offsets, s, k + 5) {
+        OperandResult::Is(operand) => SourceResult::Is(Source {
+            operand,
+            constant: is_constant(operand_at(s, k + 5)),
+            byte: is_byte(kind),
+            size: kind.size,
+        }),
+        OperandResult::Refused(n) => SourceResult::Refused(n),
+    }
+}
+
+fn one_if(b: bool) -> u64
+    ensures { λ r. ⌜ (r ≡ cond b 1 0) × (r ≤ 1) ⌝ }
+{
+    if b { 1 } else { 0 }
+}
+
+// How many records bring the source to where it is converted.
+fn source_count(s: Source) -> u64
+    ensures { λ r. ⌜ (r ≡ length (sourceRecords s)) × (r ≤ 2) ⌝ }
+{
+    one_if(s.constant) + one_if(s.byte)
+}
+
+// A constant is loaded at its own size.
+fn constant_size(n: u64) -> Size
+    ensures { λ r. ⌜ r ≡ constantSize n ⌝ }
+{
+    match n {
+        1 => Size::U8,
+        4 => Size::U32,
+        _ => Size::U64,
+    }
+}
+
+// The operand that is converted, once the source's records have run.
+fn source_operand(s: Source) -> Operand
+    ensures { λ r. ⌜ r ≡ sourceOperand s ⌝ }
+{
+    if s.constant {
+        return Operand::Reg(Register::RAX);
+    }
+    if s.byte {
+        return Operand::Reg(Register::RAX);
+    }
+    s.operand
+}
+
+// .. and its size in bytes.
+fn source_size(s: Source) -> u64
+    ensures { λ r. ⌜ r ≡ sourceSize s ⌝ }
+{
+    if s.byte { 8 } else { s.size }
+}
+
 fn movzx(src: Operand) -> Instruction
-    ensures { λ r. ⌜ r ≡ Instruction.Extend ExtendOp.Movzx RAX src Size.U8 Size.U64 ⌝ }
+    ensures { λ r. ⌜ r ≡ movzx src ⌝ }
 {
     Instruction::Extend {
         op: ExtendOp::Movzx,
@@ -68,248 +155,255 @@ fn movzx(src: Operand) -> Instruction
     }
 }
 
-fn movsxd(src: Operand) -> Instruction
-    ensures { λ r. ⌜ r ≡ Instruction.Extend ExtendOp.Movsxd RAX src Size.U32 Size.U64 ⌝ }
+// The source's records: none, a constant's load, Movzx, or both.
+fn put_source(out: &mut [u8], at: usize, s: Source)
+    requires { ⌜ at + 64 * length (sourceRecords s) ≤ length (now out) ⌝ }
+    ensures { λ _. ⌜ now (out .exit) ≡ write (now (out .entry)) at (listBytes (sourceRecords s)) ⌝ }
 {
-    Instruction::Extend {
-        op: ExtendOp::Movsxd,
-        dst: Register::RAX,
-        src,
-        src_size: Size::U32,
-        size: Size::U64,
-    }
-}
-
-// A source that is converted where it stands.
-fn in_place(tables: &[u8], offsets: &[u64], op: IrOp, size: u64) -> Sourced
-    ensures { λ r. ⌜ sourcedSays r ≡ broughtAll (inPlace (lent (now (tables .entry)) (now (offsets .entry))) op size) ⌝ }
-{
-    match convert_operand(tables, offsets, op) {
-        Placed::Is(operand) => {
-            let unused = record_of(movzx(operand));
-            Sourced::Is(Source {
-                count: 0,
-                a: unused,
-                b: unused,
-                operand,
-                size,
-            })
-        }
-        Placed::Refused(n) => Sourced::Refused(n),
-    }
-}
-
-// A constant goes through RAX.
-fn through_rax(tables: &[u8], offsets: &[u64], op: IrOp, by: Size, size: u64) -> Sourced
-    ensures { λ r. ⌜ sourcedSays r ≡ broughtAll (throughRax (lent (now (tables .entry)) (now (offsets .entry))) op by size) ⌝ }
-{
-    match load_operand(tables, offsets, Register::RAX, op, by) {
-        Loaded::Is(load) => {
-            let first = record_of(load);
-            Sourced::Is(Source {
-                count: 1,
-                a: first,
-                b: first,
-                operand: Operand::Reg(Register::RAX),
-                size,
-            })
-        }
-        Loaded::Refused(n) => Sourced::Refused(n),
-    }
-}
-
-// An integer goes through RAX at its own size, a Bool by four bytes.
-fn cast_operand(tables: &[u8], offsets: &[u64], op: IrOp, size: u64) -> Sourced
-    ensures { λ r. ⌜ sourcedSays r ≡ broughtAll (castOperand (lent (now (tables .entry)) (now (offsets .entry))) op size) ⌝ }
-{
-    match op {
-        IrOp::Var(_) => in_place(tables, offsets, op, size),
-        IrOp::Int(_, short, _) => {
-            if short {
-                through_rax(tables, offsets, op, Size::U32, 4)
-            } else {
-                through_rax(tables, offsets, op, Size::U64, 8)
-            }
-        }
-        IrOp::Float(_) => in_place(tables, offsets, op, size),
-        IrOp::Bool(_) => through_rax(tables, offsets, op, Size::U8, 1),
-        IrOp::Address(_) => in_place(tables, offsets, op, size),
-        IrOp::DataAddress(_) => in_place(tables, offsets, op, size),
-        IrOp::Null => in_place(tables, offsets, op, size),
-    }
-}
-
-// One byte that is no float is widened by Movzx first.
-fn widen(float: bool, s: Source) -> Source
-    requires { ⌜ s .count ≤ 1 ⌝ }
-    ensures { λ r. ⌜ sourceSays r ≡ widenedRecords float (sourceSays s) ⌝ }
-{
-    if float {
-        return s;
-    }
-    if s.size != 1 {
-        return s;
-    }
     let operand = s.operand;
-    let first = s.a;
-    let wide = record_of(movzx(operand));
-    if s.count == 0 {
-        Source {
-            count: 1,
-            a: wide,
-            b: wide,
-            operand: Operand::Reg(Register::RAX),
-            size: 8,
+    if s.constant {
+        put_load(out, at, Register::RAX, operand, constant_size(s.size));
+        if s.byte {
+            put_instruction(out, at + 64, movzx(Operand::Reg(Register::RAX)));
         }
-    } else {
-        Source {
-            count: 2,
-            a: first,
-            b: wide,
-            operand: Operand::Reg(Register::RAX),
-            size: 8,
-        }
+        return;
+    }
+    if s.byte {
+        put_instruction(out, at, movzx(operand));
     }
 }
 
-// The first `count` of four records.
-fn first_of(count: u64, a: Record, b: Record, c: Record, d: Record) -> Records
-    ensures { λ r. ⌜ recordsSay r ≡ ok (take count (recordSays a ∷ recordSays b ∷ recordSays c ∷ recordSays d ∷ recordSays d ∷ recordSays d ∷ recordSays d ∷ [])) ⌝ }
+fn look_store(tables: &[u8], offsets: &[u64], s: &[u8], k: usize) -> StoredResult
+    requires { ⌜ k + 13 ≤ cells (now s) ⌝ }
+    ensures { λ r. ⌜ storedSays r ≡ lookStore (lent (now (tables .entry)) (now (offsets .entry))) (varAt (now (s .entry)) (k + 2)) ⌝ }
 {
-    Records::Are(List {
-        count,
-        a,
-        b,
-        c,
-        d,
-        e: d,
-        f: d,
-        g: d,
-    })
+    let var = match convert_var_at(tables, offsets, s, k + 2) {
+        OperandResult::Is(var) => var,
+        OperandResult::Refused(n) => return StoredResult::Refused(n),
+    };
+    match var_size_at(s, k + 2) {
+        SizeResult::Is(size) => StoredResult::Is(Stored { var, size }),
+        SizeResult::Refused(n) => StoredResult::Refused(n),
+    }
 }
 
-// The records of a source and one more, or two more.
-fn then_one(s: Source, x: Instruction) -> Records
-    ensures { λ r. ⌜ recordsSay r ≡ ok (sourceSays s .records ++ recordOf x ∷ []) ⌝ }
-{
-    let a = s.a;
-    let b = s.b;
-    let z = record_of(x);
-    if s.count == 0 {
-        return first_of(1, z, z, z, z);
-    }
-    if s.count == 1 {
-        return first_of(2, a, z, z, z);
-    }
-    first_of(3, a, b, z, z)
-}
-
-fn then_two(s: Source, x: Instruction, y: Instruction) -> Records
-    ensures { λ r. ⌜ recordsSay r ≡ ok (sourceSays s .records ++ recordOf x ∷ recordOf y ∷ []) ⌝ }
-{
-    let a = s.a;
-    let b = s.b;
-    let u = record_of(x);
-    let v = record_of(y);
-    if s.count == 0 {
-        return first_of(2, u, v, v, v);
-    }
-    if s.count == 1 {
-        return first_of(3, a, u, v, v);
-    }
-    first_of(4, a, b, u, v)
-}
-
-fn store_of(float: bool) -> BinOp
-    ensures { λ r. ⌜ r ≡ cond float BinOp.StoreF BinOp.Mov ⌝ }
+fn store_op(float: bool) -> BinOp
+    ensures { λ r. ⌜ r ≡ storeOp float ⌝ }
 {
     if float { BinOp::StoreF } else { BinOp::Mov }
+}
+
+fn put_converted(
+    out: &mut [u8],
+    at: usize,
+    s: Source,
+    t: Stored,
+    op: ConvOp,
+    reg: Register,
+    by: Size,
+    store: BinOp,
+)
+    requires { ⌜ at + 64 * length (convertedOf (sourceSays s) op reg by store t) ≤ length (now out) ⌝ }
+    ensures { λ _. ⌜ now (out .exit) ≡ write (now (out .entry)) at (listBytes (convertedOf (sourceSays s) op reg by store t)) ⌝ }
+{
+    let var = t.var;
+    let size = t.size;
+    let place = at + 64 * source_count(s) as usize;
+    put_source(out, at, s);
+    put_instruction(
+        out,
+        place,
+        Instruction::Convert {
+            op,
+            dst: reg,
+            src: source_operand(s),
+            size: by,
+        },
+    );
+    put_instruction(
+        out,
+        place + 64,
+        Instruction::Binary {
+            op: store,
+            dst: var,
+            src: Operand::Reg(reg),
+            size,
+        },
+    );
 }
 
 // A conversion and the store of its result.
 fn converted(
     tables: &[u8],
     offsets: &[u64],
-    dest: VarId,
-    s: Source,
+    s: &[u8],
+    k: usize,
+    from: Source,
     op: ConvOp,
     reg: Register,
-    size: Size,
-) -> Records
-    ensures { λ r. ⌜ recordsSay r ≡ convertedRecords (lent (now (tables .entry)) (now (offsets .entry))) dest (sourceSays s) op reg size ⌝ }
+    by: Size,
+    out: &mut [u8],
+    at: usize,
+    write: bool,
+) -> CountResult
+    requires { ⌜ k + 13 ≤ cells (now s) ⌝ }
+    requires { ⌜ Ready write (converted (lent (now tables) (now offsets)) (varAt (now s) (k + 2)) (sourceSays from) op reg by) at (length (now out)) ⌝ }
+    ensures { λ r. ⌜ Makes write (converted (lent (now (tables .entry)) (now (offsets .entry))) (varAt (now (s .entry)) (k + 2)) (sourceSays from) op reg by) at (now (out .entry)) (now (out .exit)) r ⌝ }
 {
-    let var = match convert_var(tables, offsets, dest) {
-        Placed::Is(var) => var,
-        Placed::Refused(n) => return Records::Refused(n),
-    };
-    let ty = dest.ty;
-    let operand = s.operand;
-    match var_size(dest) {
-        Sized::Is(stored) => then_two(
-            s,
-            Instruction::Convert {
-                op,
-                dst: reg,
-                src: operand,
-                size,
-            },
-            Instruction::Binary {
-                op: store_of(ty.is_float()),
-                dst: var,
-                src: Operand::Reg(reg),
-                size: stored,
-            },
-        ),
-        Sized::Refused(n) => Records::Refused(n),
+    let ty = type_at(s, k + 3);
+    match look_store(tables, offsets, s, k) {
+        StoredResult::Is(t) => {
+            let count = source_count(from) + 2;
+            if write {
+                put_converted(out, at, from, t, op, reg, by, store_op(ty.is_float()));
+            }
+            CountResult::Records(count)
+        }
+        StoredResult::Refused(n) => CountResult::Refused(n),
     }
+}
+
+// Between integers, whether a record widens the source in RAX: not where that has eight bytes already.
+fn is_extended(s: Source) -> bool
+    ensures { λ r. ⌜ r ≡ isExtended (sourceSays s) ⌝ }
+{
+    source_size(s) != 8
+}
+
+fn put_extended(out: &mut [u8], at: usize, s: Source, t: Stored)
+    requires { ⌜ at + 64 * length (extendedOf (sourceSays s) t) ≤ length (now out) ⌝ }
+    ensures { λ _. ⌜ now (out .exit) ≡ write (now (out .entry)) at (listBytes (extendedOf (sourceSays s) t)) ⌝ }
+{
+    let var = t.var;
+    let size = t.size;
+    let rax = Operand::Reg(Register::RAX);
+    let place = at + 64 * source_count(s) as usize;
+    put_source(out, at, s);
+    if is_extended(s) {
+        put_instruction(
+            out,
+            place,
+            Instruction::Extend {
+                op: ExtendOp::Movsxd,
+                dst: Register::RAX,
+                src: source_operand(s),
+                src_size: Size::U32,
+                size: Size::U64,
+            },
+        );
+        put_instruction(out, place + 64, mov(var, rax, size));
+        return;
+    }
+    put_instruction(out, place, mov(var, rax, size));
 }
 
 // Between integers: RAX has eight bytes already, or Movsxd widens four.
-fn extended(tables: &[u8], offsets: &[u64], dest: VarId, s: Source) -> Records
-    ensures { λ r. ⌜ recordsSay r ≡ extendedRecords (lent (now (tables .entry)) (now (offsets .entry))) dest (sourceSays s) ⌝ }
+fn extended(
+    tables: &[u8],
+    offsets: &[u64],
+    s: &[u8],
+    k: usize,
+    from: Source,
+    out: &mut [u8],
+    at: usize,
+    write: bool,
+) -> CountResult
+    requires { ⌜ k + 13 ≤ cells (now s) ⌝ }
+    requires { ⌜ Ready write (extended (lent (now tables) (now offsets)) (varAt (now s) (k + 2)) (sourceSays from)) at (length (now out)) ⌝ }
+    ensures { λ r. ⌜ Makes write (extended (lent (now (tables .entry)) (now (offsets .entry))) (varAt (now (s .entry)) (k + 2)) (sourceSays from)) at (now (out .entry)) (now (out .exit)) r ⌝ }
 {
-    let var = match convert_var(tables, offsets, dest) {
-        Placed::Is(var) => var,
-        Placed::Refused(n) => return Records::Refused(n),
-    };
-    let size = match var_size(dest) {
-        Sized::Is(size) => size,
-        Sized::Refused(n) => return Records::Refused(n),
-    };
-    let store = mov(var, Operand::Reg(Register::RAX), size);
-    if s.size == 8 {
-        return then_one(s, store);
+    match look_store(tables, offsets, s, k) {
+        StoredResult::Is(t) => {
+            let count = source_count(from) + 1 + one_if(is_extended(from));
+            if write {
+                put_extended(out, at, from, t);
+            }
+            CountResult::Records(count)
+        }
+        StoredResult::Refused(n) => CountResult::Refused(n),
     }
-    let operand = s.operand;
-    then_two(s, movsxd(operand), store)
 }
 
-// The code of a conversion to or from a float, by its size.
-fn to_float(from_float: bool, size: u64) -> ConvOp
-    ensures { λ r. ⌜ r ≡ toFloat «from_float» size ⌝ }
+fn float_to_float(n: u64) -> ConvOp
+    ensures { λ r. ⌜ r ≡ floatToFloat n ⌝ }
 {
-    if from_float {
-        if size == 8 {
-            ConvOp::Cvtss2sd
-        } else {
-            ConvOp::Cvtsd2ss
-        }
+    if n == 8 {
+        ConvOp::Cvtss2sd
     } else {
-        if size == 8 {
-            ConvOp::Cvtsi2sd
-        } else {
-            ConvOp::Cvtsi2ss
-        }
+        ConvOp::Cvtsd2ss
     }
 }
 
-fn to_integer(size: u64) -> ConvOp
-    ensures { λ r. ⌜ r ≡ toInteger size ⌝ }
+fn integer_to_float(n: u64) -> ConvOp
+    ensures { λ r. ⌜ r ≡ integerToFloat n ⌝ }
 {
-    if size == 8 {
+    if n == 8 {
+        ConvOp::Cvtsi2sd
+    } else {
+        ConvOp::Cvtsi2ss
+    }
+}
+
+fn float_to_integer(n: u64) -> ConvOp
+    ensures { λ r. ⌜ r ≡ floatToInteger n ⌝ }
+{
+    if n == 8 {
         ConvOp::Cvttsd2si
     } else {
         ConvOp::Cvttss2si
+    }
+}
+
+// To a float of `n` bytes.
+fn cast_to_float(
+    tables: &[u8],
+    offsets: &[u64],
+    s: &[u8],
+    k: usize,
+    from: Source,
+    float: bool,
+    n: u64,
+    out: &mut [u8],
+    at: usize,
+    write: bool,
+) -> CountResult
+    requires { ⌜ k + 13 ≤ cells (now s) ⌝ }
+    requires { ⌜ Ready write (castBetween (lent (now tables) (now offsets)) (varAt (now s) (k + 2)) (sourceSays from) float true n) at (length (now out)) ⌝ }
+    ensures { λ r. ⌜ Makes write (castBetween (lent (now (tables .entry)) (now (offsets .entry))) (varAt (now (s .entry)) (k + 2)) (sourceSays from) float true n) at (now (out .entry)) (now (out .exit)) r ⌝ }
+{
+    let reg = Register::XMM0;
+    if float {
+        let op = float_to_float(n);
+        let by = Size::NoSize;
+        return converted(tables, offsets, s, k, from, op, reg, by, out, at, write);
+    }
+    let op = integer_to_float(n);
+    match size_from(source_size(from)) {
+        SizeResult::Is(by) => converted(tables, offsets, s, k, from, op, reg, by, out, at, write),
+        SizeResult::Refused(number) => CountResult::Refused(number),
+    }
+}
+
+// From a float to an integer: dest's size in bytes, which is 0 in the contract, plays no part.
+fn cast_to_integer(
+    tables: &[u8],
+    offsets: &[u64],
+    s: &[u8],
+    k: usize,
+    from: Source,
+    out: &mut [u8],
+    at: usize,
+    write: bool,
+) -> CountResult
+    requires { ⌜ k + 13 ≤ cells (now s) ⌝ }
+    requires { ⌜ Ready write (castBetween (lent (now tables) (now offsets)) (varAt (now s) (k + 2)) (sourceSays from) true false 0) at (length (now out)) ⌝ }
+    ensures { λ r. ⌜ Makes write (castBetween (lent (now (tables .entry)) (now (offsets .entry))) (varAt (now (s .entry)) (k + 2)) (sourceSays from) true false 0) at (now (out .entry)) (now (out .exit)) r ⌝ }
+{
+    let reg = Register::RAX;
+    let op = float_to_integer(source_size(from));
+    match var_size_at(s, k + 2) {
+        SizeResult::Is(by) => converted(tables, offsets, s, k, from, op, reg, by, out, at, write),
+        SizeResult::Refused(number) => CountResult::Refused(number),
     }
 }
 
@@ -317,80 +411,72 @@ fn to_integer(size: u64) -> ConvOp
 fn cast_between(
     tables: &[u8],
     offsets: &[u64],
-    dest: VarId,
-    s: Source,
-    from_float: bool,
+    s: &[u8],
+    k: usize,
+    from: Source,
     float: bool,
-    size: u64,
-) -> Records
-    ensures { λ r. ⌜ recordsSay r ≡ betweenRecords (lent (now (tables .entry)) (now (offsets .entry))) dest (sourceSays s) «from_float» float size ⌝ }
+    to: bool,
+    n: u64,
+    out: &mut [u8],
+    at: usize,
+    write: bool,
+) -> CountResult
+    requires { ⌜ k + 13 ≤ cells (now s) ⌝ }
+    requires { ⌜ Ready write (castBetween (lent (now tables) (now offsets)) (varAt (now s) (k + 2)) (sourceSays from) float to n) at (length (now out)) ⌝ }
+    ensures { λ r. ⌜ Makes write (castBetween (lent (now (tables .entry)) (now (offsets .entry))) (varAt (now (s .entry)) (k + 2)) (sourceSays from) float to n) at (now (out .entry)) (now (out .exit)) r ⌝ }
 {
+    if to {
+        return cast_to_float(tables, offsets, s, k, from, float, n, out, at, write);
+    }
     if float {
-        let op = to_float(from_float, size);
-        if from_float {
-            return converted(tables, offsets, dest, s, op, Register::XMM0, Size::NoSize);
-        }
-        return match size_from(s.size) {
-            Sized::Is(by) => converted(tables, offsets, dest, s, op, Register::XMM0, by),
-            Sized::Refused(n) => Records::Refused(n),
-        };
+        return cast_to_integer(tables, offsets, s, k, from, out, at, write);
     }
-    if from_float {
-        let op = to_integer(s.size);
-        return match var_size(dest) {
-            Sized::Is(by) => converted(tables, offsets, dest, s, op, Register::RAX, by),
-            Sized::Refused(n) => Records::Refused(n),
-        };
-    }
-    extended(tables, offsets, dest, s)
+    extended(tables, offsets, s, k, from, out, at, write)
 }
 
 // The low bytes are enough: both are floats of one size, or both are integers and dest is no wider.
-fn is_copy(k: Kind, float: bool, size: u64) -> bool
-    ensures { λ r. ⌜ r ≡ isCopy (kindSays k) float size ⌝ }
+fn is_copy(k: Kind, float: bool, n: u64) -> bool
+    ensures { λ r. ⌜ r ≡ isCopy (kindSays k) float n ⌝ }
 {
     if k.float != float {
         return false;
     }
-    if k.size < size {
+    if k.size < n {
         return false;
     }
-    if float { k.size == size } else { true }
+    if float { k.size == n } else { true }
 }
 
-// A cast that is no copy.
-fn cast_kind(tables: &[u8], offsets: &[u64], dest: VarId, src: IrOp, k: Kind, size: u64) -> Records
-    ensures { λ r. ⌜ recordsSay r ≡ castRecords (lent (now (tables .entry)) (now (offsets .entry))) dest src (kindSays k) size ⌝ }
+pub fn generate_cast(
+    tables: &[u8],
+    offsets: &[u64],
+    s: &[u8],
+    k: usize,
+    out: &mut [u8],
+    at: usize,
+    write: bool,
+) -> CountResult
+    requires { ⌜ k + 13 ≤ cells (now s) ⌝ }
+    requires { ⌜ Ready write (generateCast (lent (now tables) (now offsets)) (varAt (now s) (k + 2)) (operandAt (now s) (k + 5))) at (length (now out)) ⌝ }
+    ensures { λ r. ⌜ Makes write (generateCast (lent (now (tables .entry)) (now (offsets .entry))) (varAt (now (s .entry)) (k + 2)) (operandAt (now (s .entry)) (k + 5))) at (now (out .entry)) (now (out .exit)) r ⌝ }
 {
-    let ty = dest.ty;
-    match cast_operand(tables, offsets, src, k.size) {
-        Sourced::Is(s) => cast_between(
-            tables,
-            offsets,
-            dest,
-            widen(k.float, s),
-            k.float,
-            ty.is_float(),
-            size,
-        ),
-        Sourced::Refused(n) => Records::Refused(n),
-    }
-}
-
-pub fn generate_cast(tables: &[u8], offsets: &[u64], dest: VarId, src: IrOp) -> Records
-    ensures { λ r. ⌜ recordsSay r ≡ encoded (generateCast (lent (now (tables .entry)) (now (offsets .entry))) dest src) ⌝ }
-{
-    let k = match operand_kind(tables, offsets, src) {
-        Kinded::Is(k) => k,
-        Kinded::Refused(n) => return Records::Refused(n),
+    let ty = type_at(s, k + 3);
+    let to = ty.is_float();
+    let kind = match operand_kind(tables, offsets, operand_at(s, k + 5)) {
+        KindResult::Is(kind) => kind,
+        KindResult::Refused(number) => return CountResult::Refused(number),
     };
-    let ty = dest.ty;
-    let size = match ty.size() {
-        Number::Is(size) => size,
-        Number::Refused(n) => return Records::Refused(n),
+    let n = match ty.size() {
+        Number::Is(n) => n,
+        Number::Refused(number) => return CountResult::Refused(number),
     };
-    if is_copy(k, ty.is_float(), size) {
-        return generate_copy(tables, offsets, dest, src);
+    if is_copy(kind, to, n) {
+        return generate_copy(tables, offsets, s, k, out, at, write);
     }
-    cast_kind(tables, offsets, dest, src, k, size)
+    let from = match cast_operand(tables, offsets, s, k, kind) {
+        SourceResult::Is(from) => from,
+        SourceResult::Refused(number) => return CountResult::Refused(number),
+    };
+    let float = kind.float;
+    cast_between(tables, offsets, s, k, from, float, to, n, out, at, write)
 }

@@ -1,2 +1,3 @@
 pub mod Results
 pub mod Shapes
+pub mod Refusals

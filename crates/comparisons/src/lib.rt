@@ -1,33 +1,57 @@
-// Krc's codegen/arithmetic.rs, comparisons: the records of a comparison of integers or of floats.
-use instructions::Kinded;
-use instructions::binary;
-use instructions::mov;
-use instructions::operand_kind;
-use ir::Operand as IrOp;
-use ir::VarId;
-use records::Records;
-use records::five;
-use records::seven;
-use utils::Loaded;
-use utils::Placed;
-use utils::Sized;
-use utils::convert_var;
-use utils::load_operand;
+// Krc's codegen/arithmetic.rs, comparisons: the records of a comparison of integers or of floats, counted or written.
+use ir::read::operand_at;
+use utils::CountResult;
+use utils::OperandResult;
+use utils::SizeResult;
+use utils::convert_var_at;
+use utils::kinds::KindResult;
+use utils::kinds::operand_kind;
+use utils::mov;
+use utils::put_load;
 use utils::size_from;
-use utils::var_size;
+use utils::source_at;
+use utils::var_size_at;
 use x86::enums::BinOp;
 use x86::enums::ConditionCode;
 use x86::enums::Instruction;
 use x86::enums::Operand;
 use x86::enums::Size;
+use x86::record::put_instruction;
 use x86::register::Register;
 ghost use mathlib.Core.Path.{_≡_};
-ghost use mathlib.Core.List.{[]};
+ghost use mathlib.Core.List.{[], _∷_, _++_};
 ghost use mathlib.Core.Bool.{cond};
-ghost use Rattle.x86.specs.Registers.{xmm, RAX, RCX};
-ghost use Rattle.codegen.specs.Arithmetic.{unsignedCode, floatCode, parity, compared, floatComparison, comparison};
+ghost use Prim.Native.Nat.{_+_, _*_, _≤_};
+ghost use lib.ListN.{length};
+ghost use Rattle.cells.specs.Cells.{cells, write};
+ghost use Rattle.ir.specs.Function.{varAt, operandAt};
+ghost use Rattle.x86.specs.Registers.{RAX};
+ghost use Rattle.x86.specs.Records.{listBytes};
+ghost use Rattle.codegen.specs.Utils.{sizeOr};
+ghost use Rattle.codegen.specs.Instructions.{move};
+ghost use Rattle.codegen.specs.Arithmetic.{unsignedCode, isSwapped, floatCode, ordered, compared, floatComparison, comparison};
 ghost use Rattle.utils.specs.Answers.{lent};
-ghost use Rattle.records.specs.Records.{recordsSay, encoded};
+ghost use Rattle.utils.specs.Makes.{Makes, Ready};
+ghost use Rattle.comparisons.specs.Looks.{sidesSay, moreOf, lookCompared, comparedOf};
+
+// The sources of both sides, dest's slot and dest's size.
+pub struct Sides {
+    pub left: Operand,
+    pub right: Operand,
+    pub var: Operand,
+    pub stored: Size,
+}
+
+pub enum SidesResult {
+    Are(Sides),
+    Refused(u64),
+}
+
+// What else a comparison asks: nothing, or the parity flag, by a second code and the operation that joins it to the first.
+pub enum More {
+    Nothing,
+    Parity(ConditionCode, BinOp),
+}
 
 // For an unsigned, non-float left: G, GE, L, LE turn to A, AE, B, BE.
 fn unsigned_code(cc: ConditionCode) -> ConditionCode
@@ -69,180 +93,282 @@ fn float_code(cc: ConditionCode) -> ConditionCode
     }
 }
 
-fn set(cc: ConditionCode, reg: Register) -> Instruction
-    ensures { λ r. ⌜ r ≡ Instruction.SetCC cc (Operand.Reg reg) ⌝ }
+fn is_swapped(cc: ConditionCode) -> bool
+    ensures { λ r. ⌜ r ≡ isSwapped cc ⌝ }
 {
-    Instruction::SetCC {
-        op: cc,
-        dst: Operand::Reg(reg),
-    }
-}
-
-// Both sides, the comparison, the flag, and the store to dest, which is looked up last.
-fn compared(
-    tables: &[u8],
-    offsets: &[u64],
-    dest: VarId,
-    a: Register,
-    left: IrOp,
-    b: Register,
-    right: IrOp,
-    size: Size,
-    op: BinOp,
-    cc: ConditionCode,
-) -> Records
-    ensures { λ r. ⌜ recordsSay r ≡ encoded (compared (lent (now (tables .entry)) (now (offsets .entry))) dest a left b right size op cc []) ⌝ }
-{
-    let x = match load_operand(tables, offsets, a, left, size) {
-        Loaded::Is(x) => x,
-        Loaded::Refused(n) => return Records::Refused(n),
-    };
-    let y = match load_operand(tables, offsets, b, right, size) {
-        Loaded::Is(y) => y,
-        Loaded::Refused(n) => return Records::Refused(n),
-    };
-    let var = match convert_var(tables, offsets, dest) {
-        Placed::Is(var) => var,
-        Placed::Refused(n) => return Records::Refused(n),
-    };
-    let test = binary(op, Operand::Reg(a), Operand::Reg(b), size);
-    let flag = set(cc, Register::RAX);
-    match var_size(dest) {
-        Sized::Is(stored) => five(
-            x,
-            y,
-            test,
-            flag,
-            mov(var, Operand::Reg(Register::RAX), stored),
-        ),
-        Sized::Refused(n) => Records::Refused(n),
+    match cc.code() {
+        4 => true,
+        5 => true,
+        _ => false,
     }
 }
 
 // Equality of floats asks the parity flag too: `sete al ; setnp cl ; and al, cl`, or `setne al ; setp cl ; or al, cl`.
-fn equality(
-    tables: &[u8],
-    offsets: &[u64],
-    dest: VarId,
-    left: IrOp,
-    right: IrOp,
-    size: Size,
-    cc: ConditionCode,
-    even: ConditionCode,
-    join: BinOp,
-) -> Records
-    ensures { λ r. ⌜ recordsSay r ≡ encoded (compared (lent (now (tables .entry)) (now (offsets .entry))) dest (xmm 0) left (xmm 1) right size BinOp.UcomiF cc (parity even join)) ⌝ }
+fn ordered(cc: ConditionCode) -> More
+    ensures { λ r. ⌜ moreOf r ≡ ordered cc ⌝ }
 {
-    let x = match load_operand(tables, offsets, Register::XMM0, left, size) {
-        Loaded::Is(x) => x,
-        Loaded::Refused(n) => return Records::Refused(n),
-    };
-    let y = match load_operand(tables, offsets, Register::XMM1, right, size) {
-        Loaded::Is(y) => y,
-        Loaded::Refused(n) => return Records::Refused(n),
-    };
-    let var = match convert_var(tables, offsets, dest) {
-        Placed::Is(var) => var,
-        Placed::Refused(n) => return Records::Refused(n),
-    };
-    let rax = Operand::Reg(Register::RAX);
-    let store = match var_size(dest) {
-        Sized::Is(stored) => mov(var, rax, stored),
-        Sized::Refused(n) => return Records::Refused(n),
-    };
-    let test = float_test(size);
-    let flag = set(cc, Register::RAX);
-    let other = set(even, Register::RCX);
-    let joined = binary(join, rax, Operand::Reg(Register::RCX), Size::U8);
-    seven(x, y, test, flag, other, joined, store)
-}
-
-fn float_test(size: Size) -> Instruction
-    ensures { λ r. ⌜ r ≡ Instruction.Binary BinOp.UcomiF (Operand.Reg (xmm 0)) (Operand.Reg (xmm 1)) size ⌝ }
-{
-    Instruction::Binary {
-        op: BinOp::UcomiF,
-        dst: Operand::Reg(Register::XMM0),
-        src: Operand::Reg(Register::XMM1),
-        size,
+    match cc.code() {
+        0 => More::Parity(ConditionCode::NP, BinOp::And),
+        1 => More::Parity(ConditionCode::P, BinOp::Or),
+        _ => More::Nothing,
     }
 }
 
-fn float_compared(
+// The number of a comparison's records.
+fn records(more: More) -> u64
+    ensures { λ r. ⌜ r ≡ length (moreOf more) + 5 ⌝ }
+{
+    match more {
+        More::Nothing => 5,
+        More::Parity(_, _) => 7,
+    }
+}
+
+// Dest is looked up last.
+fn look_compared(
     tables: &[u8],
     offsets: &[u64],
-    dest: VarId,
-    left: IrOp,
-    right: IrOp,
-    size: Size,
-    cc: ConditionCode,
-) -> Records
-    ensures { λ r. ⌜ recordsSay r ≡ encoded (compared (lent (now (tables .entry)) (now (offsets .entry))) dest (xmm 0) left (xmm 1) right size BinOp.UcomiF cc []) ⌝ }
+    s: &[u8],
+    dest: usize,
+    left: usize,
+    right: usize,
+) -> SidesResult
+    requires { ⌜ dest + 3 ≤ cells (now s) ⌝ }
+    requires { ⌜ left + 4 ≤ cells (now s) ⌝ }
+    requires { ⌜ right + 4 ≤ cells (now s) ⌝ }
+    ensures { λ r. ⌜ sidesSay r ≡ lookCompared (lent (now (tables .entry)) (now (offsets .entry))) (varAt (now (s .entry)) dest) (operandAt (now (s .entry)) left) (operandAt (now (s .entry)) right) ⌝ }
 {
-    let op = BinOp::UcomiF;
-    let a = Register::XMM0;
-    let b = Register::XMM1;
-    compared(tables, offsets, dest, a, left, b, right, size, op, cc)
+    let x = match source_at(tables, offsets, s, left) {
+        OperandResult::Is(x) => x,
+        OperandResult::Refused(n) => return SidesResult::Refused(n),
+    };
+    let y = match source_at(tables, offsets, s, right) {
+        OperandResult::Is(y) => y,
+        OperandResult::Refused(n) => return SidesResult::Refused(n),
+    };
+    let var = match convert_var_at(tables, offsets, s, dest) {
+        OperandResult::Is(var) => var,
+        OperandResult::Refused(n) => return SidesResult::Refused(n),
+    };
+    match var_size_at(s, dest) {
+        SizeResult::Is(stored) => SidesResult::Are(Sides {
+            left: x,
+            right: y,
+            var,
+            stored,
+        }),
+        SizeResult::Refused(n) => SidesResult::Refused(n),
+    }
+}
+
+// What else is asked, and the store to dest.
+fn put_store(out: &mut [u8], at: usize, var: Operand, stored: Size, more: More)
+    requires { ⌜ at + 64 * (length (moreOf more) + 1) ≤ length (now out) ⌝ }
+    ensures { λ _. ⌜ now (out .exit) ≡ write (now (out .entry)) at (listBytes (moreOf more ++ move var (Operand.Reg RAX) stored ∷ [])) ⌝ }
+{
+    let store = mov(var, Operand::Reg(Register::RAX), stored);
+    match more {
+        More::Nothing => put_instruction(out, at, store),
+        More::Parity(second, join) => {
+            put_instruction(
+                out,
+                at,
+                Instruction::SetCC {
+                    op: second,
+                    dst: Operand::Reg(Register::RCX),
+                },
+            );
+            put_instruction(
+                out,
+                at + 64,
+                Instruction::Binary {
+                    op: join,
+                    dst: Operand::Reg(Register::RAX),
+                    src: Operand::Reg(Register::RCX),
+                    size: Size::U8,
+                },
+            );
+            put_instruction(out, at + 128, store);
+        }
+    }
+}
+
+// Both sides, the comparison, the flag, what else is asked, and the store.
+fn put_compared(
+    out: &mut [u8],
+    at: usize,
+    t: Sides,
+    a: Register,
+    b: Register,
+    size: Size,
+    op: BinOp,
+    cc: ConditionCode,
+    more: More,
+)
+    requires { ⌜ at + 64 * (length (moreOf more) + 5) ≤ length (now out) ⌝ }
+    ensures { λ _. ⌜ now (out .exit) ≡ write (now (out .entry)) at (listBytes (comparedOf a b size op cc (moreOf more) t)) ⌝ }
+{
+    let left = t.left;
+    let right = t.right;
+    let var = t.var;
+    let stored = t.stored;
+    put_load(out, at, a, left, size);
+    put_load(out, at + 64, b, right, size);
+    put_instruction(
+        out,
+        at + 128,
+        Instruction::Binary {
+            op,
+            dst: Operand::Reg(a),
+            src: Operand::Reg(b),
+            size,
+        },
+    );
+    put_instruction(
+        out,
+        at + 192,
+        Instruction::SetCC {
+            op: cc,
+            dst: Operand::Reg(Register::RAX),
+        },
+    );
+    put_store(out, at + 256, var, stored, more);
+}
+
+fn compared(
+    tables: &[u8],
+    offsets: &[u64],
+    s: &[u8],
+    dest: usize,
+    a: Register,
+    left: usize,
+    b: Register,
+    right: usize,
+    size: Size,
+    op: BinOp,
+    cc: ConditionCode,
+    more: More,
+    out: &mut [u8],
+    at: usize,
+    write: bool,
+) -> CountResult
+    requires { ⌜ dest + 3 ≤ cells (now s) ⌝ }
+    requires { ⌜ left + 4 ≤ cells (now s) ⌝ }
+    requires { ⌜ right + 4 ≤ cells (now s) ⌝ }
+    requires { ⌜ ((z : Size) → sizeOr size z ≡ size) ⌝ }
+    requires { ⌜ Ready write (compared (lent (now tables) (now offsets)) (varAt (now s) dest) a (operandAt (now s) left) b (operandAt (now s) right) size op cc (moreOf more)) at (length (now out)) ⌝ }
+    ensures { λ r. ⌜ Makes write (compared (lent (now (tables .entry)) (now (offsets .entry))) (varAt (now (s .entry)) dest) a (operandAt (now (s .entry)) left) b (operandAt (now (s .entry)) right) size op cc (moreOf more)) at (now (out .entry)) (now (out .exit)) r ⌝ }
+{
+    match look_compared(tables, offsets, s, dest, left, right) {
+        SidesResult::Are(t) => {
+            let count = records(more);
+            if write {
+                put_compared(out, at, t, a, b, size, op, cc, more);
+            }
+            CountResult::Records(count)
+        }
+        SidesResult::Refused(n) => CountResult::Refused(n),
+    }
 }
 
 fn float_comparison(
     tables: &[u8],
     offsets: &[u64],
-    dest: VarId,
-    left: IrOp,
-    right: IrOp,
+    s: &[u8],
+    k: usize,
     size: Size,
     cc: ConditionCode,
-) -> Records
-    ensures { λ r. ⌜ recordsSay r ≡ encoded (floatComparison (lent (now (tables .entry)) (now (offsets .entry))) dest left right size cc) ⌝ }
+    out: &mut [u8],
+    at: usize,
+    write: bool,
+) -> CountResult
+    requires { ⌜ k + 13 ≤ cells (now s) ⌝ }
+    requires { ⌜ ((z : Size) → sizeOr size z ≡ size) ⌝ }
+    requires { ⌜ Ready write (floatComparison (lent (now tables) (now offsets)) (varAt (now s) (k + 2)) (operandAt (now s) (k + 5)) (operandAt (now s) (k + 9)) size cc) at (length (now out)) ⌝ }
+    ensures { λ r. ⌜ Makes write (floatComparison (lent (now (tables .entry)) (now (offsets .entry))) (varAt (now (s .entry)) (k + 2)) (operandAt (now (s .entry)) (k + 5)) (operandAt (now (s .entry)) (k + 9)) size cc) at (now (out .entry)) (now (out .exit)) r ⌝ }
 {
-    let np = ConditionCode::NP;
-    let p = ConditionCode::P;
     let code = float_code(cc);
-    match cc.code() {
-        0 => equality(
+    if is_swapped(cc) {
+        return compared(
             tables,
             offsets,
-            dest,
-            left,
-            right,
+            s,
+            k + 2,
+            Register::XMM0,
+            k + 9,
+            Register::XMM1,
+            k + 5,
             size,
+            BinOp::UcomiF,
             code,
-            np,
-            BinOp::And,
-        ),
-        1 => equality(tables, offsets, dest, left, right, size, code, p, BinOp::Or),
-        4 => float_compared(tables, offsets, dest, right, left, size, code),
-        5 => float_compared(tables, offsets, dest, right, left, size, code),
-        _ => float_compared(tables, offsets, dest, left, right, size, code),
+            More::Nothing,
+            out,
+            at,
+            write,
+        );
     }
+    let more = ordered(cc);
+    compared(
+        tables,
+        offsets,
+        s,
+        k + 2,
+        Register::XMM0,
+        k + 5,
+        Register::XMM1,
+        k + 9,
+        size,
+        BinOp::UcomiF,
+        code,
+        more,
+        out,
+        at,
+        write,
+    )
 }
 
-// Of two sides of one type. Whether the code is a signed one is asked of left, as dest is a Bool.
+// The code is signed where left is.
 pub fn comparison(
     tables: &[u8],
     offsets: &[u64],
-    dest: VarId,
-    left: IrOp,
-    right: IrOp,
+    s: &[u8],
+    k: usize,
     cc: ConditionCode,
-) -> Records
-    ensures { λ r. ⌜ recordsSay r ≡ encoded (comparison (lent (now (tables .entry)) (now (offsets .entry))) dest left right cc) ⌝ }
+    out: &mut [u8],
+    at: usize,
+    write: bool,
+) -> CountResult
+    requires { ⌜ k + 13 ≤ cells (now s) ⌝ }
+    requires { ⌜ Ready write (comparison (lent (now tables) (now offsets)) (varAt (now s) (k + 2)) (operandAt (now s) (k + 5)) (operandAt (now s) (k + 9)) cc) at (length (now out)) ⌝ }
+    ensures { λ r. ⌜ Makes write (comparison (lent (now (tables .entry)) (now (offsets .entry))) (varAt (now (s .entry)) (k + 2)) (operandAt (now (s .entry)) (k + 5)) (operandAt (now (s .entry)) (k + 9)) cc) at (now (out .entry)) (now (out .exit)) r ⌝ }
 {
-    let kind = match operand_kind(tables, offsets, left) {
-        Kinded::Is(kind) => kind,
-        Kinded::Refused(n) => return Records::Refused(n),
+    let kind = match operand_kind(tables, offsets, operand_at(s, k + 5)) {
+        KindResult::Is(kind) => kind,
+        KindResult::Refused(n) => return CountResult::Refused(n),
     };
     let size = match size_from(kind.size) {
-        Sized::Is(size) => size,
-        Sized::Refused(n) => return Records::Refused(n),
+        SizeResult::Is(size) => size,
+        SizeResult::Refused(n) => return CountResult::Refused(n),
     };
     if kind.float {
-        return float_comparison(tables, offsets, dest, left, right, size, cc);
+        return float_comparison(tables, offsets, s, k, size, cc, out, at, write);
     }
-    let op = BinOp::Cmp;
-    let a = Register::RAX;
-    let b = Register::RCX;
     let code = integer_code(kind.unsigned, cc);
-    compared(tables, offsets, dest, a, left, b, right, size, op, code)
+    compared(
+        tables,
+        offsets,
+        s,
+        k + 2,
+        Register::RAX,
+        k + 5,
+        Register::RCX,
+        k + 9,
+        size,
+        BinOp::Cmp,
+        code,
+        More::Nothing,
+        out,
+        at,
+        write,
+    )
 }

@@ -4,10 +4,9 @@ use generation::Answer;
 use generation::generate;
 use plain::plain;
 ghost use mathlib.Core.Path.{_≡_};
-ghost use mathlib.Core.List.{List};
+ghost use Prim.Native.Nat.{_≤_};
 ghost use lib.ListN.{length};
-ghost use Rattle.x86.specs.declared.enums.Instruction.{Instruction};
-ghost use Rattle.codegen.specs.Generation.{accepted, lowered, recordsAfter};
+ghost use Rattle.codegen.specs.Generation.{lowered, recordsAfter};
 ghost use Rattle.machine.specs.Plain.{Plain};
 ghost use Rattle.machine.specs.Calls.{Demand2};
 ghost use Rattle.machine.specs.Simulation.{Demand3};
@@ -22,10 +21,12 @@ pub extern "C" fn gilthoren_lower(
     place: &mut u64,
 ) -> u64
     ensures number { λ r. ⌜ r ≡ numberOf (lowered (now (tables .entry)) (now (sheet .entry)) (length (now (records .entry)))) ⌝ }
+    ensures known { λ r. ⌜ r ≤ 9 ⌝ }
     ensures place { λ r. ⌜ now (place .exit) ≡ valueOf (lowered (now (tables .entry)) (now (sheet .entry)) (length (now (records .entry)))) ⌝ }
     ensures bytes { λ r. ⌜ now (records .exit) ≡ recordsAfter (lowered (now (tables .entry)) (now (sheet .entry)) (length (now (records .entry)))) (now (records .entry)) ⌝ }
-    ensures demand2 { λ r. ⌜ ((is : List Instruction) → lowered (now (tables .entry)) (now (sheet .entry)) (length (now (records .entry))) ≡ accepted is → Demand2 (now (tables .entry)) (now (sheet .entry)) (now (records .exit)) (length is)) ⌝ }
-    ensures demand3 { λ r. ⌜ ((is : List Instruction) → lowered (now (tables .entry)) (now (sheet .entry)) (length (now (records .entry))) ≡ accepted is → Plain (now (tables .entry)) (now (sheet .entry)) → Demand3 (now (tables .entry)) (now (sheet .entry)) (now (records .exit)) (length is)) ⌝ }
+    ensures lent { λ r. ⌜ (now (tables .exit) ≡ now (tables .entry)) × (now (sheet .exit) ≡ now (sheet .entry)) ⌝ }
+    ensures demand2 { λ r. ⌜ (r ≡ 0 → Demand2 (now (tables .entry)) (now (sheet .entry)) (now (records .exit)) (now (place .exit))) ⌝ }
+    ensures demand3 { λ r. ⌜ (r ≡ 0 → Plain (now (tables .entry)) (now (sheet .entry)) → Demand3 (now (tables .entry)) (now (sheet .entry)) (now (records .exit)) (now (place .exit))) ⌝ }
 {
     match generate(tables, sheet, records) {
         Answer::Accepted(count) => {
@@ -42,7 +43,8 @@ pub extern "C" fn gilthoren_lower(
 // The plain test. Gives 1 for yes, with 0 in `place`; or 0 for no, with a number that is at fault.
 #[no_mangle]
 pub extern "C" fn gilthoren_plain(tables: &[u8], sheet: &[u8], place: &mut u64) -> u64
-    ensures { λ r. ⌜ PlainSays (now (tables .entry)) (now (sheet .entry)) r (now (place .exit)) ⌝ }
+    ensures lent { λ r. ⌜ (now (tables .exit) ≡ now (tables .entry)) × (now (sheet .exit) ≡ now (sheet .entry)) ⌝ }
+    ensures answer { λ r. ⌜ PlainSays (now (tables .entry)) (now (sheet .entry)) r (now (place .exit)) ⌝ }
 {
     match plain(tables, sheet) {
         Plainness::Yes => {

@@ -1,4 +1,3 @@
 pub mod Offsets
-pub mod Rest
 pub mod Stores
 pub mod Prologue

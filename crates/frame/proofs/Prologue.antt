@@ -1,39 +1,33 @@
 -- The three parts of the prologue, one behind the other.
 use Prim.Native.Nat.{ℕ, _+_, _*_, _≤_}
-use mathlib.Core.Path.{_≡_, refl, sym, ap, subst, _∙_}
+use mathlib.Core.Path.{_≡_, refl, sym, ap, subst}
 use mathlib.Core.Bool.{Bool, true, false}
-use mathlib.Core.List.{List, [], _∷_, _++_}
+use mathlib.Core.List.{List, [], _∷_, _++_, append-nil}
 use native.Mathlib.Omega.{arith}
 use lib.ListN.{length, length-append}
-use Rattle.cells.specs.Cells.{write}
 use Rattle.ir.specs.declared.VarId.{VarId}
 use Rattle.ir.specs.Types.{Result, ok, refused, _>>=_}
 use Rattle.x86.specs.declared.enums.Instruction.{Instruction}
-use Rattle.x86.specs.Records.{Record, recordOf, recordBytes}
 use Rattle.codegen.specs.Context.{Context}
 use Rattle.codegen.specs.Frame.{registersOf, storeParams, funcPrologue}
-use Rattle.codegen.proofs.Results.{Yields, yields, refuses, bind, never}
+use Rattle.codegen.proofs.Results.{Yields, yields, refuses, never}
+use Rattle.utils.specs.declared.CountResult.{CountResult}
 use Rattle.utils.specs.Answers.{counted}
-use Rattle.utils.specs.Parts.{Put, PutAll}
-use Rattle.utils.proofs.Emitted.{Emitted, first, more}
-use Rattle.utils.proofs.Parts.{put-more, before}
-use Rattle.frame.specs.Stores.{entering}
-use Rattle.frame.proofs.Stores.{turn, turn-few, registers-few}
-
--- ---- a record by its cells
-
-pub first-cells : {s u : List ℕ} {at : ℕ} {r : Record} (i : Instruction) → u ≡ write s at (recordBytes r) → r ≡ recordOf i → Emitted s at (i ∷ []) 1 u
-first-cells {s} {u} {at} i e f = first i (e ∙ ap (λ (x : Record). write s at (recordBytes x)) f)
-
-pub more-cells : {s t u : List ℕ} {at n : ℕ} {is : List Instruction} {r : Record} (i : Instruction) → Emitted s at is n t → at + 64 * (n + 1) ≤ length s
-    → u ≡ write t (at + 64 * n) (recordBytes r) → r ≡ recordOf i → Emitted s at (is ++ i ∷ []) (n + 1) u
-more-cells {s} {t} {u} {at} {n} i g h e f = more i g h (e ∙ ap (λ (x : Record). write t (at + 64 * n) (recordBytes x)) f)
+use Rattle.utils.specs.Makes.{Makes, Ready, before, then}
+use Rattle.utils.proofs.Made.{Going, begins, next-ready, next, stops, finishes}
+use Rattle.frame.specs.Stores.{entering, storeParam}
+use Rattle.frame.proofs.Stores.{size-of, turn, turn-few, registers-few}
 
 -- ---- how many stores there are
 
-before-few : (m k : ℕ) (is : List Instruction) (r : Result (List Instruction)) → Yields r (λ js. k + length is + length js ≤ m) → Yields (before is r) (λ js. k + length js ≤ m)
-before-few m k is (ok js) y = yields (rw length-append (omega (arith, y .of js refl)))
-before-few m k is (refused n) y = refuses n
+then-few : (m k : ℕ) (r : Result (List Instruction)) (f : ℕ → Result (List Instruction)) → Yields r (λ is. k + length is ≤ m)
+    → ((j : ℕ) → k + j ≤ m → Yields (f (k + j)) (λ is. k + j + length is ≤ m)) → Yields (then r (f (k + size-of r))) (λ is. k + length is ≤ m)
+then-few m k (refused n) f y h = refuses n
+then-few m k (ok is) f y h = go (f (k + length is)) (h (length is) (y .of is refl))
+  where
+    go : (q : Result (List Instruction)) → Yields q (λ js. k + length is + length js ≤ m) → Yields (before is q) (λ js. k + length js ≤ m)
+    go (ok js) z = yields (rw length-append (omega (arith, z .of js refl)))
+    go (refused n) z = refuses n
 
 stores-few : (ctx : Context) (float : Bool) (k : ℕ) (ps : List VarId) → k ≤ length (registersOf float) →
     Yields (storeParams ctx float k ps) (λ is. k + length is ≤ length (registersOf float))
@@ -41,11 +35,11 @@ unfolding storeParams
 stores-few ctx float k [] h = yields (omega arith)
 stores-few ctx float k (p ∷ ps) h =
     subst (λ (r : Result (List Instruction)). Yields r (λ is. k + length is ≤ length (registersOf float))) (sym (turn ctx float k p ps))
-    (bind (turn-few ctx float k p h)
-    (λ is l. before-few (length (registersOf float)) k is (storeParams ctx float (k + length is) ps) (stores-few ctx float (k + length is) ps l)))
+    (then-few (length (registersOf float)) k (storeParam ctx float k p) (λ j. storeParams ctx float j ps) (turn-few ctx float k p h) (λ j l. stores-few ctx float (k + j) ps l))
 
-pub few-stores : (ctx : Context) (float : Bool) (ps : List VarId) {m : ℕ} → ok m ≡ counted (storeParams ctx float 0 ps) → m ≤ 8
-few-stores ctx float ps {m} = go (storeParams ctx float 0 ps) (stores-few ctx float 0 ps (omega arith))
+pub few-stores : (ctx : Context) (float : Bool) (ps : List VarId) {writes : Bool} {at m : ℕ} {old new : List ℕ}
+    → Makes writes (storeParams ctx float 0 ps) at old new (CountResult.Records m) → m ≤ 8
+few-stores ctx float ps {writes} {at} {m} made = go (storeParams ctx float 0 ps) (stores-few ctx float 0 ps (omega arith)) (made .says)
   where
     go : (r : Result (List Instruction)) → Yields r (λ is. 0 + length is ≤ length (registersOf float)) → ok m ≡ counted r → m ≤ 8
     go (ok is) y e = let l : m ≡ length is = let z = e in cc in omega (arith, y .of is refl, registers-few float)
@@ -53,33 +47,54 @@ few-stores ctx float ps {m} = go (storeParams ctx float 0 ps) (stores-few ctx fl
 
 -- ---- the parts
 
-abbrev pub parts : List Instruction → Result (List Instruction) → Result (List Instruction) → Result (List Instruction)
-parts h r q = r >>= λ w. q >>= λ f. ok (h ++ w ++ f)
-
-pub in-parts : (ctx : Context) (bytes : ℕ) (ps : List VarId) → funcPrologue ctx bytes ps ≡ parts (entering bytes) (storeParams ctx false 0 ps) (storeParams ctx true 0 ps)
+in-parts : (ctx : Context) (bytes : ℕ) (ps : List VarId) → then (ok (entering bytes)) (then (storeParams ctx false 0 ps) (storeParams ctx true 0 ps)) ≡ funcPrologue ctx bytes ps
 unfolding funcPrologue
-in-parts ctx bytes ps = refl
+in-parts ctx bytes ps = go (storeParams ctx false 0 ps) (storeParams ctx true 0 ps)
+  where
+    go : (a b : Result (List Instruction)) → then (ok (entering bytes)) (then a b) ≡ (a >>= λ words. b >>= λ floats. ok (entering bytes ++ words ++ floats))
+    go (ok words) (ok floats) = refl
+    go (ok words) (refused n) = refl
+    go (refused n) b = refl
 
-module _ (h : List Instruction) (old t u : List ℕ) (p : Put 0 h old t) where
-  pub first-refused : (r q : Result (List Instruction)) {n : ℕ} → refused n ≡ counted r → PutAll (64 * length h) r t u →
-      (refused n ≡ counted (parts h r q)) × PutAll 0 (parts h r q) old u
-  first-refused (ok w) q c l = absurd (never c)
-  first-refused (refused m) q c l = (c, l ∙ p .long)
+then-none : (r : Result (List Instruction)) → r ≡ then r (ok [])
+then-none (ok is) = ap ok (sym (append-nil is))
+then-none (refused n) = refl
 
-  module _ (new : List ℕ) (x : ℕ) where
-    pub second-refused : (r q : Result (List Instruction)) {n : ℕ} → ok x ≡ counted r → PutAll (64 * length h) r t u → refused n ≡ counted q
-        → PutAll (64 * length h + 64 * x) q u new → (refused n ≡ counted (parts h r q)) × PutAll 0 (parts h r q) old new
-    second-refused (ok w) (ok f) a l c k = absurd (never c)
-    second-refused (ok w) (refused m) a l c k = (c, k ∙ l .long ∙ p .long)
-    second-refused (refused m) q a l c k = absurd (never (sym a))
+module _ (ctx : Context) (bytes : ℕ) (ps : List VarId) (old : List ℕ) {writes : Bool} (room : Ready writes (funcPrologue ctx bytes ps) 0 (length old)) where
+  abbrev words : Result (List Instruction)
+  words = storeParams ctx false 0 ps
 
-    pub both-made : (r q : Result (List Instruction)) {y : ℕ} → ok x ≡ counted r → PutAll (64 * length h) r t u → ok y ≡ counted q
-        → PutAll (64 * length h + 64 * x) q u new → (ok (length h + x + y) ≡ counted (parts h r q)) × PutAll 0 (parts h r q) old new
-    both-made (ok w) (ok f) {y} a l c k =
-        let i : x ≡ length w = let z = a in cc in
-        let j : y ≡ length f = let z = c in cc in (
-          ap ok (rw (length-append (h ++ w) f, length-append h w) (omega arith)),
-          put-more (put-more p (omega arith) l) (rw (length-append h w) (omega arith)) k,
-        )
-    both-made (ok w) (refused m) a l c k = absurd (never (sym c))
-    both-made (refused m) q a l c k = absurd (never (sym a))
+  abbrev floats : Result (List Instruction)
+  floats = storeParams ctx true 0 ps
+
+  start : Going writes (funcPrologue ctx bytes ps) 0 old (then (ok (entering bytes)) (then words floats)) 0 old
+  start = begins writes (funcPrologue ctx bytes ps) (then (ok (entering bytes)) (then words floats)) 0 old (in-parts ctx bytes ps)
+
+  pub enter-ready : Ready writes (ok (entering bytes)) 0 (length old)
+  enter-ready = next-ready start room (ok (entering bytes)) (then words floats) refl refl
+
+  module _ {r : CountResult} {t : List ℕ} (e : Makes writes (ok (entering bytes)) 0 old t r) where
+    entered : Going writes (funcPrologue ctx bytes ps) 0 old (then words floats) 3 t
+    entered = next start room (ok (entering bytes)) (then words floats) {n = 3} refl refl (record { says = refl; bytes = e .bytes })
+
+    pub words-ready : Ready writes words 192 (length t)
+    words-ready = next-ready entered room words floats refl refl
+
+    pub words-stop : {m : ℕ} {new : List ℕ} → Makes writes words 192 t new (CountResult.Refused m) → Makes writes (funcPrologue ctx bytes ps) 0 old new (CountResult.Refused m)
+    words-stop made = stops entered room words floats refl made
+
+    module _ {x : ℕ} {u : List ℕ} (w : Makes writes words 192 t u (CountResult.Records x)) where
+      worded : Going writes (funcPrologue ctx bytes ps) 0 old floats (3 + x) u
+      worded = next entered room words floats refl refl w
+
+      here : 192 + 64 * x ≡ 0 + 64 * (3 + x)
+      here = omega arith
+
+      pub floats-ready : Ready writes floats (192 + 64 * x) (length u)
+      floats-ready = next-ready worded room floats (ok []) (then-none floats) here
+
+      pub floats-stop : {m : ℕ} {new : List ℕ} → Makes writes floats (192 + 64 * x) u new (CountResult.Refused m) → Makes writes (funcPrologue ctx bytes ps) 0 old new (CountResult.Refused m)
+      floats-stop made = stops worded room floats (ok []) (then-none floats) made
+
+      pub all-made : {m : ℕ} {new : List ℕ} → Makes writes floats (192 + 64 * x) u new (CountResult.Records m) → Makes writes (funcPrologue ctx bytes ps) 0 old new (CountResult.Records (3 + x + m))
+      all-made made = finishes (next worded room floats (ok []) (then-none floats) here made) room refl

@@ -1,11 +1,12 @@
--- The parts of the prologue, as `funcPrologue` and `storeParams` make them.
+-- Auxiliary: the parts of the prologue; `funcPrologue` is `entering` and the stores behind it, by `in-parts` (proofs/Prologue), and `storeParams` is `storeParam` of each parameter, by `turn` (proofs/Stores).
 use Prim.Native.Nat.{ℕ}
 use mathlib.Core.Bool.{Bool, cond, Bool·beq}
 use mathlib.Core.List.{List, [], _∷_}
 use lib.ListN.{length, getD}
 use lib.Dec.{ltb}
 use Rattle.ir.specs.declared.VarId.{VarId}
-use Rattle.ir.specs.Types.{Result, ok, _>>=_, isFloat}
+use Rattle.ir.specs.Types.{Result, ok, refused, _>>=_, isFloat}
+use Rattle.x86.specs.declared.register.Register.{Register}
 use Rattle.x86.specs.declared.enums.Size.{Size}
 use Rattle.x86.specs.declared.enums.BinOp.{BinOp}
 use Rattle.x86.specs.declared.enums.StackOp.{StackOp}
@@ -16,12 +17,29 @@ use Rattle.codegen.specs.Context.{Context}
 use Rattle.codegen.specs.Utils.{varSize, convertVar}
 use Rattle.codegen.specs.Instructions.{move}
 use Rattle.codegen.specs.Frame.{registersOf, storeOf}
+use Rattle.frame.specs.declared.Param.{Param}
+use Rattle.frame.specs.declared.ParamResult.{ParamResult}
 
 -- `push rbp ; mov rbp, rsp ; sub rsp, bytes`
 abbrev pub entering : ℕ → List Instruction
 entering bytes =
     Instruction.Stack StackOp.Push (Operand.Reg RBP) Size.NoSize ∷ move (Operand.Reg RBP) (Operand.Reg RSP) Size.NoSize
     ∷ Instruction.Binary BinOp.Sub (Operand.Reg RSP) (Operand.Imm bytes) Size.NoSize ∷ []
+
+-- ---- a parameter's store: what its look-ups find, and the record that is made of it
+
+abbrev pub paramSays : ParamResult → Result Param
+paramSays (ParamResult.Is t) = ok t
+paramSays (ParamResult.Refused n) = refused n
+
+abbrev pub lookParam : Context → VarId → Result Param
+lookParam ctx p = do
+  var ← convertVar ctx p
+  size ← varSize p
+  ok (record { var = var; size = size })
+
+abbrev pub paramOf : BinOp → Register → Param → Instruction
+paramOf op reg t = Instruction.Binary op (t .var) (Operand.Reg reg) (t .size)
 
 -- from the register of rank k into the parameter's slot
 unfoldable pub storeOne : Context → Bool → ℕ → VarId → Result (List Instruction)

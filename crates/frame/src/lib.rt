@@ -5,40 +5,38 @@ use ir::read::type_at;
 use ir::read::var_at;
 use ir::types::Number;
 use ir::types::element_width;
-use laid::next_type;
 use layout::Checked;
 use layout::parts::MOST_BYTES;
-use utils::Made;
-use utils::Sized;
-use utils::displacement;
-use utils::room;
+use layout::parts::type_check;
+use utils::CountResult;
+use utils::OperandResult;
+use utils::SizeResult;
+use utils::convert_var;
+use utils::registers::param_register;
+use utils::registers::registers;
 use utils::var_size;
-use x86::record::Record;
-use x86::record::put_record;
+use x86::enums::BinOp;
+use x86::enums::Instruction;
+use x86::enums::Operand;
+use x86::enums::Size;
+use x86::enums::StackOp;
+use x86::record::put_instruction;
 use x86::register::Register;
 ghost use mathlib.Core.Path.{_≡_};
 ghost use mathlib.Core.Bool.{true, _&&_, not};
 ghost use Prim.Native.Nat.{_+_, _*_, _≤_};
 ghost use lib.Dec.{eqb};
-ghost use lib.ListN.{length, getD, take};
-ghost use Rattle.cells.specs.Cells.{cells};
-ghost use Rattle.ir.specs.Types.{elementWidth};
+ghost use lib.ListN.{length, take};
+ghost use Rattle.cells.specs.Cells.{cells, write};
+ghost use Rattle.ir.specs.Types.{ok, elementWidth};
 ghost use Rattle.ir.specs.Function.{typesAt, varsAt};
-ghost use Rattle.layout.specs.Layout.{typesCheck};
-ghost use Rattle.laid.specs.Laid.{accepts};
-ghost use Rattle.x86.specs.declared.enums.Operand.{Operand};
-ghost use Rattle.x86.specs.declared.enums.Size.{Size};
-ghost use Rattle.x86.specs.declared.enums.BinOp.{BinOp};
-ghost use Rattle.x86.specs.declared.enums.StackOp.{StackOp};
-ghost use Rattle.x86.specs.declared.enums.Instruction.{Instruction};
-ghost use Rattle.x86.specs.Registers.{number, RAX, RSP, RBP};
-ghost use Rattle.x86.specs.Records.{binCode, cellsRecord, recordOf};
-ghost use Rattle.x86.specs.Says.{recordSays};
-ghost use Rattle.codegen.specs.Frame.{offsetsFrom, registersOf, storeOf, storeParams, funcPrologue};
-ghost use Rattle.utils.specs.Answers.{lent, madeSays, counted, emitted, placed};
-ghost use Rattle.utils.specs.Parts.{PutAll};
-ghost use Rattle.frame.specs.Sizes.{totalOf, sizesAt, typedOf};
-ghost use Rattle.frame.specs.Stores.{entering, storeOne, storeParam};
+ghost use Rattle.layout.specs.Layout.{accepts, typesCheck};
+ghost use Rattle.x86.specs.Records.{recordOf, recordBytes, listBytes};
+ghost use Rattle.codegen.specs.Frame.{offsetsFrom, storeOf, storeParams, funcPrologue};
+ghost use Rattle.utils.specs.Answers.{lent};
+ghost use Rattle.utils.specs.Makes.{Makes, Ready};
+ghost use Rattle.frame.specs.Sizes.{totalOf, sizesAt, typedOf, offsetsAfter};
+ghost use Rattle.frame.specs.Stores.{entering, paramSays, lookParam, paramOf, storeOne, storeParam};
 
 // What the variables' types come to: the total of their sizes and the cursor behind them, or the first wrong cell.
 pub enum Typed {
@@ -64,13 +62,14 @@ fn total_of(widths: bool, end: u64) -> Number
 }
 
 // The `n` variable types from a cursor on, and the offset of each variable. The total of their sizes so far stays within its limit: the count cell that
-// passes it is refused.
+// passes it is refused. The numbers from the first wrong type's on stay as they were.
 pub fn var_offsets(s: &[u8], n: u64, c: Cursor, offsets: &mut [u64; 256]) -> Typed
     requires { ⌜ n ≤ 256 ⌝ }
     requires { ⌜ length (now offsets) ≡ 256 ⌝ }
     ensures { λ r. ⌜ r ≡ typedOf (typesCheck (now (s .entry)) n 0 c) (sizesAt (now (s .entry)) n (c .at)) ⌝ }
     ensures { λ r. ⌜ length (now (offsets .exit)) ≡ length (now (offsets .entry)) ⌝ }
     ensures { λ r. ⌜ (accepts (typesCheck (now (s .entry)) n 0 c) ≡ true → take n (now (offsets .exit)) ≡ offsetsFrom 0 (typesAt (now (s .entry)) n (c .at))) ⌝ }
+    ensures { λ r. ⌜ now (offsets .exit) ≡ offsetsAfter (now (s .entry)) n c (now (offsets .entry)) ⌝ }
 {
     let mut left = n;
     let mut k: usize = 0;
@@ -78,7 +77,7 @@ pub fn var_offsets(s: &[u8], n: u64, c: Cursor, offsets: &mut [u64; 256]) -> Typ
     let mut widths = true;
     let mut here = c;
     while 0 < left {
-        let next = match next_type(s, here) {
+        let next = match type_check(s, here) {
             Checked::Behind(next) => next,
             Checked::Refused(number, cell) => return Typed::Wrong(number, cell),
         };
@@ -102,63 +101,52 @@ fn both(a: bool, b: bool) -> bool
     if a { b } else { false }
 }
 
-// `PARAM_REGS` and `PARAM_FREGS`: the register of the parameter of rank `k` among those that are floats, or among those that are not.
-pub fn param_register(float: bool, k: u64) -> Register
-    ensures { λ r. ⌜ r ≡ getD (registersOf float) k RAX ⌝ }
+// A parameter's slot and its size.
+pub struct Param {
+    pub var: Operand,
+    pub size: Size,
+}
+
+pub enum ParamResult {
+    Is(Param),
+    Refused(u64),
+}
+
+fn look_param(tables: &[u8], offsets: &[u64], p: VarId) -> ParamResult
+    ensures { λ r. ⌜ paramSays r ≡ lookParam (lent (now (tables .entry)) (now (offsets .entry))) p ⌝ }
 {
-    if float {
-        match k {
-            0 => Register::XMM0,
-            1 => Register::XMM1,
-            2 => Register::XMM2,
-            3 => Register::XMM3,
-            4 => Register::XMM4,
-            5 => Register::XMM5,
-            6 => Register::XMM6,
-            7 => Register::XMM7,
-            _ => Register::RAX,
-        }
-    } else {
-        match k {
-            0 => Register::RDI,
-            1 => Register::RSI,
-            2 => Register::RDX,
-            3 => Register::RCX,
-            4 => Register::R8,
-            5 => Register::R9,
-            _ => Register::RAX,
-        }
+    let var = match convert_var(tables, offsets, p) {
+        OperandResult::Is(var) => var,
+        OperandResult::Refused(n) => return ParamResult::Refused(n),
+    };
+    match var_size(p) {
+        SizeResult::Is(size) => ParamResult::Is(Param { var, size }),
+        SizeResult::Refused(n) => ParamResult::Refused(n),
     }
 }
 
-// How many registers there are for them.
-pub fn registers(float: bool) -> u64
-    ensures { λ r. ⌜ r ≡ length (registersOf float) ⌝ }
+fn store_op(float: bool) -> BinOp
+    ensures { λ r. ⌜ r ≡ storeOf float ⌝ }
 {
-    if float { 8 } else { 6 }
+    if float { BinOp::StoreF } else { BinOp::Mov }
 }
 
-// The record of a parameter's store, from the register of its rank into its slot, of so many bytes.
-fn store_record(float: bool, k: u64, slot: u64, size: u64) -> Record
-    ensures { λ r. ⌜ recordSays r ≡ cellsRecord 0 (binCode (storeOf float)) 5 slot 1 (number (getD (registersOf float) k RAX)) size 0 ⌝ }
+fn put_param(out: &mut [u8], at: usize, t: Param, op: BinOp, reg: Register)
+    requires { ⌜ at + 64 ≤ length (now out) ⌝ }
+    ensures { λ _. ⌜ now (out .exit) ≡ write (now (out .entry)) at (recordBytes (recordOf (paramOf op reg t))) ⌝ }
 {
-    let reg = param_register(float, k);
-    Record {
-        form: 0,
-        operation: store_code(float),
-        dst_tag: 5,
-        dst: slot,
-        src_tag: 1,
-        src: reg.number(),
-        size,
-        src_size: 0,
-    }
-}
-
-fn store_code(float: bool) -> u64
-    ensures { λ r. ⌜ r ≡ binCode (storeOf float) ⌝ }
-{
-    if float { 12 } else { 0 }
+    let var = t.var;
+    let size = t.size;
+    put_instruction(
+        out,
+        at,
+        Instruction::Binary {
+            op,
+            dst: var,
+            src: Operand::Reg(reg),
+            size,
+        },
+    );
 }
 
 // A parameter, from the register of its rank into its slot.
@@ -170,22 +158,20 @@ fn store_one(
     p: VarId,
     out: &mut [u8],
     at: usize,
-) -> Made
-    ensures { λ r. ⌜ madeSays r ≡ counted (storeOne (lent (now (tables .entry)) (now (offsets .entry))) float k p) ⌝ }
-    ensures { λ r. ⌜ now (out .exit) ≡ placed at (storeOne (lent (now (tables .entry)) (now (offsets .entry))) float k p) (now (out .entry)) ⌝ }
+    write: bool,
+) -> CountResult
+    requires { ⌜ Ready write (storeOne (lent (now tables) (now offsets)) float k p) at (length (now out)) ⌝ }
+    ensures { λ r. ⌜ Makes write (storeOne (lent (now (tables .entry)) (now (offsets .entry))) float k p) at (now (out .entry)) (now (out .exit)) r ⌝ }
 {
-    let slot = match displacement(tables, offsets, p.id) {
-        Number::Is(slot) => slot,
-        Number::Refused(n) => return Made::Refused(n),
-    };
-    let size = match var_size(p) {
-        Sized::Is(size) => size,
-        Sized::Refused(n) => return Made::Refused(n),
-    };
-    if 1 <= room(out.len(), at) {
-        put_record(out, at, store_record(float, k, slot, size.code()));
+    match look_param(tables, offsets, p) {
+        ParamResult::Is(t) => {
+            if write {
+                put_param(out, at, t, store_op(float), param_register(float, k));
+            }
+            CountResult::Records(1)
+        }
+        ParamResult::Refused(n) => CountResult::Refused(n),
     }
-    Made::Records(1)
 }
 
 // No record for a parameter of the other kind, or where no register is left.
@@ -197,18 +183,19 @@ fn store_param(
     p: VarId,
     out: &mut [u8],
     at: usize,
-) -> Made
-    ensures { λ r. ⌜ madeSays r ≡ counted (storeParam (lent (now (tables .entry)) (now (offsets .entry))) float k p) ⌝ }
-    ensures { λ r. ⌜ now (out .exit) ≡ placed at (storeParam (lent (now (tables .entry)) (now (offsets .entry))) float k p) (now (out .entry)) ⌝ }
+    write: bool,
+) -> CountResult
+    requires { ⌜ Ready write (storeParam (lent (now tables) (now offsets)) float k p) at (length (now out)) ⌝ }
+    ensures { λ r. ⌜ Makes write (storeParam (lent (now (tables .entry)) (now (offsets .entry))) float k p) at (now (out .entry)) (now (out .exit)) r ⌝ }
 {
     let ty = p.ty;
     if ty.is_float() != float {
-        return Made::Records(0);
+        return CountResult::Records(0);
     }
     if registers(float) <= k {
-        return Made::Records(0);
+        return CountResult::Records(0);
     }
-    store_one(tables, offsets, float, k, p, out, at)
+    store_one(tables, offsets, float, k, p, out, at, write)
 }
 
 // The stores of the parameters that are floats, or of those that are not, among `n` from cell `from` on.
@@ -221,11 +208,12 @@ fn store_params(
     float: bool,
     out: &mut [u8],
     at: usize,
-) -> Made
+    write: bool,
+) -> CountResult
     requires { ⌜ from + 3 * n ≤ cells (now sheet) ⌝ }
     requires { ⌜ at ≤ 1024 ⌝ }
-    ensures { λ r. ⌜ madeSays r ≡ counted (storeParams (lent (now (tables .entry)) (now (offsets .entry))) float 0 (varsAt (now (sheet .entry)) n from)) ⌝ }
-    ensures { λ r. ⌜ PutAll at (storeParams (lent (now (tables .entry)) (now (offsets .entry))) float 0 (varsAt (now (sheet .entry)) n from)) (now (out .entry)) (now (out .exit)) ⌝ }
+    requires { ⌜ Ready write (storeParams (lent (now tables) (now offsets)) float 0 (varsAt (now sheet) n from)) at (length (now out)) ⌝ }
+    ensures { λ r. ⌜ Makes write (storeParams (lent (now (tables .entry)) (now (offsets .entry))) float 0 (varsAt (now (sheet .entry)) n from)) at (now (out .entry)) (now (out .exit)) r ⌝ }
 {
     let mut left = n;
     let mut cell = from;
@@ -233,77 +221,66 @@ fn store_params(
     while 0 < left {
         let p = var_at(sheet, cell);
         let place = at + 64 * k as usize;
-        match store_param(tables, offsets, float, k, p, out, place) {
-            Made::Records(made) => {
+        match store_param(tables, offsets, float, k, p, out, place, write) {
+            CountResult::Records(made) => {
                 k += made;
             }
-            Made::Refused(number) => {
-                return Made::Refused(number);
+            CountResult::Refused(number) => {
+                return CountResult::Refused(number);
             }
         }
         cell += 3;
         left -= 1;
     }
-    Made::Records(k)
+    CountResult::Records(k)
 }
 
-// `push rbp`
-fn push_rbp() -> Record
-    ensures { λ r. ⌜ recordSays r ≡ recordOf (Instruction.Stack StackOp.Push (Operand.Reg RBP) Size.NoSize) ⌝ }
+// `push rbp ; mov rbp, rsp ; sub rsp, bytes`, at the start.
+fn put_enter(out: &mut [u8], bytes: u64)
+    requires { ⌜ 192 ≤ length (now out) ⌝ }
+    ensures { λ _. ⌜ now (out .exit) ≡ write (now (out .entry)) 0 (listBytes (entering bytes)) ⌝ }
 {
-    Record {
-        form: 14,
-        operation: 0,
-        dst_tag: 1,
-        dst: 5,
-        src_tag: 0,
-        src: 0,
-        size: 0,
-        src_size: 0,
-    }
+    let rbp = Operand::Reg(Register::RBP);
+    let rsp = Operand::Reg(Register::RSP);
+    put_instruction(
+        out,
+        0,
+        Instruction::Stack {
+            op: StackOp::Push,
+            value: rbp,
+            size: Size::NoSize,
+        },
+    );
+    put_instruction(
+        out,
+        64,
+        Instruction::Binary {
+            op: BinOp::Mov,
+            dst: rbp,
+            src: rsp,
+            size: Size::NoSize,
+        },
+    );
+    put_instruction(
+        out,
+        128,
+        Instruction::Binary {
+            op: BinOp::Sub,
+            dst: rsp,
+            src: Operand::Imm(bytes),
+            size: Size::NoSize,
+        },
+    );
 }
 
-// `mov rbp, rsp`
-fn frame_entered() -> Record
-    ensures { λ r. ⌜ recordSays r ≡ recordOf (Instruction.Binary BinOp.Mov (Operand.Reg RBP) (Operand.Reg RSP) Size.NoSize) ⌝ }
+fn enter(out: &mut [u8], bytes: u64, write: bool) -> CountResult
+    requires { ⌜ Ready write (ok (entering bytes)) 0 (length (now out)) ⌝ }
+    ensures { λ r. ⌜ Makes write (ok (entering bytes)) 0 (now (out .entry)) (now (out .exit)) r ⌝ }
 {
-    Record {
-        form: 0,
-        operation: 0,
-        dst_tag: 1,
-        dst: 5,
-        src_tag: 1,
-        src: 4,
-        size: 0,
-        src_size: 0,
+    if write {
+        put_enter(out, bytes);
     }
-}
-
-// `sub rsp, bytes`
-fn frame_taken(bytes: u64) -> Record
-    ensures { λ r. ⌜ recordSays r ≡ recordOf (Instruction.Binary BinOp.Sub (Operand.Reg RSP) (Operand.Imm bytes) Size.NoSize) ⌝ }
-{
-    Record {
-        form: 0,
-        operation: 3,
-        dst_tag: 1,
-        dst: 4,
-        src_tag: 2,
-        src: bytes,
-        size: 0,
-        src_size: 0,
-    }
-}
-
-// `push rbp ; mov rbp, rsp ; sub rsp, bytes`, at the start, if there is room.
-fn enter(bytes: u64, out: &mut [u8])
-    ensures { λ _. ⌜ now (out .exit) ≡ emitted 0 (entering bytes) (now (out .entry)) ⌝ }
-{
-    if 192 <= out.len() {
-        put_record(out, 0, push_rbp());
-        put_record(out, 64, frame_entered());
-        put_record(out, 128, frame_taken(bytes));
-    }
+    CountResult::Records(3)
 }
 
 // Then each of the `n` parameters, from cell `from` on, goes from its register into its slot.
@@ -315,19 +292,21 @@ pub fn func_prologue(
     from: usize,
     bytes: u64,
     out: &mut [u8],
-) -> Made
+    write: bool,
+) -> CountResult
     requires { ⌜ from + 3 * n ≤ cells (now sheet) ⌝ }
-    ensures { λ r. ⌜ madeSays r ≡ counted (funcPrologue (lent (now (tables .entry)) (now (offsets .entry))) bytes (varsAt (now (sheet .entry)) n from)) ⌝ }
-    ensures { λ r. ⌜ PutAll 0 (funcPrologue (lent (now (tables .entry)) (now (offsets .entry))) bytes (varsAt (now (sheet .entry)) n from)) (now (out .entry)) (now (out .exit)) ⌝ }
+    requires { ⌜ n ≤ 256 ⌝ }
+    requires { ⌜ Ready write (funcPrologue (lent (now tables) (now offsets)) bytes (varsAt (now sheet) n from)) 0 (length (now out)) ⌝ }
+    ensures { λ r. ⌜ Makes write (funcPrologue (lent (now (tables .entry)) (now (offsets .entry))) bytes (varsAt (now (sheet .entry)) n from)) 0 (now (out .entry)) (now (out .exit)) r ⌝ }
 {
-    enter(bytes, out);
-    let words = match store_params(tables, offsets, sheet, n, from, false, out, 192) {
-        Made::Records(words) => words,
-        Made::Refused(number) => return Made::Refused(number),
+    enter(out, bytes, write);
+    let words = match store_params(tables, offsets, sheet, n, from, false, out, 192, write) {
+        CountResult::Records(words) => words,
+        CountResult::Refused(number) => return CountResult::Refused(number),
     };
     let place = 192 + 64 * words as usize;
-    match store_params(tables, offsets, sheet, n, from, true, out, place) {
-        Made::Records(floats) => Made::Records(3 + words + floats),
-        Made::Refused(number) => Made::Refused(number),
+    match store_params(tables, offsets, sheet, n, from, true, out, place, write) {
+        CountResult::Records(floats) => CountResult::Records(3 + words + floats),
+        CountResult::Refused(number) => CountResult::Refused(number),
     }
 }

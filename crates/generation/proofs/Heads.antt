@@ -11,12 +11,11 @@ use Rattle.ir.specs.declared.types.Number.{Number}
 use Rattle.ir.specs.Function.{typesAt}
 use Rattle.layout.specs.declared.Limited.{Limited}
 use Rattle.layout.specs.declared.Checked.{Checked}
-use Rattle.laid.specs.Laid.{accepts}
-use Rattle.layout.specs.Layout.{bindLimited, bindChecked, cursor, limited, returnCheck}
+use Rattle.layout.specs.Layout.{accepts, bindLimited, bindChecked, cursor, limited, returnCheck}
 use Rattle.codegen.specs.Frame.{offsetsFrom}
 use Rattle.frame.specs.declared.Typed.{Typed}
 use Rattle.frame.specs.Sizes.{sizesAt, typedOf}
-use Rattle.bodies.specs.Head.{thenChecked, listsHead, restHead, headCheck}
+use Rattle.body.specs.Head.{thenChecked, listsHead, restHead, headCheck}
 use Rattle.generation.specs.Head.{headed, Lies}
 use Rattle.layout.proofs.Passed.{place, limited-passed}
 use Rattle.layout.proofs.Laws.{return-right}

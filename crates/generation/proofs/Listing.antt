@@ -1,13 +1,12 @@
 -- Prologue, body and epilogue, one behind the other: how many records they are, and the bytes that have them.
 use Prim.Native.Nat.{ℕ, suc, _+_, _*_, _≤_, _<_}
-use mathlib.Core.Path.{_≡_, refl, sym, ap, subst, _∙_}
+use mathlib.Core.Path.{_≡_, refl, sym, ap, _∙_}
 use mathlib.Core.Bool.{Bool, true, false, Bool·beq}
-use mathlib.Core.List.{List, [], _∷_, _++_, append-nil}
+use mathlib.Core.List.{List, [], _∷_, _++_, append-nil, append-assoc}
 use native.Mathlib.Omega.{arith}
 use lib.ListN.{length, length-append}
 use lib.Dec.{ltb}
 use Rattle.cells.specs.Cells.{cellAt, write}
-use Rattle.cells.proofs.Bytes.{write-length}
 use Rattle.ir.specs.declared.VarId.{VarId}
 use Rattle.ir.specs.Function.{varsAt}
 use Rattle.ir.specs.Types as types
@@ -23,18 +22,16 @@ use Rattle.codegen.proofs.Results.{Yields, yields, any, bind, choose, never}
 use Rattle.codegen.proofs.Shapes.{ends-last, ends-same}
 use Rattle.machine.proofs.Accepted as outcomes
 use Rattle.utils.specs.Answers.{lent, counted}
-use Rattle.utils.specs.Parts.{Put, PutAll}
-use Rattle.utils.proofs.Emitted.{listBytes-length}
-use Rattle.utils.proofs.Parts.{put-none, put-more}
+use Rattle.utils.specs.declared.CountResult.{CountResult}
+use Rattle.utils.specs.Makes.{Makes, Fits, Ready, before, then}
+use Rattle.utils.proofs.Made.{Going, begins, next-ready, next, finishes}
 use Rattle.frame.proofs.Prologue.{few-stores}
-use Rattle.integers.specs.Integers.{Fits, Wrote}
-use Rattle.bodies.specs.declared.Passed.{Passed}
-use Rattle.generation.specs.declared.pass.Ready.{Ready}
+use Rattle.body.specs.declared.Passed.{Passed}
+use Rattle.generation.specs.declared.pass.Counted.{Counted}
 use Rattle.generation.specs.Answers.{countedOutcome}
-use Rattle.bodies.specs.Body.{bodyOf, Accepts, passedOf}
+use Rattle.body.specs.Body.{mostBefore, bodyOf, withoutPlace, passedOf}
 use Rattle.generation.specs.Pass.{listOf, ending}
 use Rattle.generation.specs.Survey.{countedList, framed}
-use Rattle.bodies.proofs.Running.{wrote-put}
 
 -- ---- the prologue is short, and does not end in Ret
 
@@ -59,11 +56,11 @@ both-open xs [] h k x e = ends-same (x ∷ xs) [] refl ∙ h x e
 both-open xs (y ∷ ys) h k x e = ends-last (x ∷ xs) y ys ∙ k x e
 
 pub record Short (is : List Instruction) : Type 0 where
-  pub few : length is ≤ 19
+  pub few : length is ≤ mostBefore
   pub ends : endsInRet is ≡ false
 
 stores-few : (ctx : Context) (float : Bool) (ps : List VarId) → Yields (storeParams ctx float 0 ps) (λ is. (length is ≤ 8) × Open is)
-stores-few ctx float ps = record { of = λ is e. (few-stores ctx float ps (ap counted (sym e)), stores-open ctx float 0 ps .of is e) }
+stores-few ctx float ps = record { of = λ is e. (few-stores ctx float ps {writes = false} {at = 0} {old = []} (record { says = sym (ap counted e); bytes = refl }), stores-open ctx float 0 ps .of is e) }
 
 pub prologue-short : (ctx : Context) (bytes : ℕ) (ps : List VarId) → Yields (funcPrologue ctx bytes ps) Short
 unfolding funcPrologue endsInRet
@@ -72,10 +69,10 @@ prologue-short ctx bytes ps =
     bind (stores-few ctx true ps) (λ floats k.
     yields (record { few = rw length-append (omega (arith, h .0, k .0)); ends = both-open words floats (h .1) (k .1) _ refl })))
 
-pub first-few : (ctx : Context) (bytes : ℕ) (ps : List VarId) {n : ℕ} → ok n ≡ counted (funcPrologue ctx bytes ps) → n ≤ 19
+pub first-few : (ctx : Context) (bytes : ℕ) (ps : List VarId) {n : ℕ} → ok n ≡ counted (funcPrologue ctx bytes ps) → n ≤ mostBefore
 first-few ctx bytes ps {n} = go (funcPrologue ctx bytes ps) (prologue-short ctx bytes ps)
   where
-    go : (r : Result (List Instruction)) → Yields r Short → ok n ≡ counted r → n ≤ 19
+    go : (r : Result (List Instruction)) → Yields r Short → ok n ≡ counted r → n ≤ mostBefore
     go (ok is) y e = let l : n ≡ length is = let z = e in cc in omega (arith, y .of is refl .few)
     go (types.refused m) y e = absurd (never (sym e))
 
@@ -116,121 +113,111 @@ list-counted (types.refused n) (accepted ys) h = refl
 list-counted (types.refused n) (refused m i) h = refl
 
 -- .. where the prologue refuses
-pub first-refused : (p : Result (List Instruction)) (bytes : ℕ) (b : Passed) {n : ℕ} → types.refused n ≡ counted p → Ready.Refused n 0 ≡ framed bytes (countedList p b)
+pub first-refused : (p : Result (List Instruction)) (bytes : ℕ) (b : Passed) {n : ℕ} → types.refused n ≡ counted p → Counted.Refused n 0 ≡ framed bytes (countedList p b)
 first-refused p bytes (Passed.Made m r) e = rw (← e) refl
 first-refused p bytes (Passed.Refused m i) e = rw (← e) refl
 
 module _ (first : Result ℕ) (bytes x : ℕ) (e : ok x ≡ first) where
   -- .. where the body does
-  pub body-refused : (n i : ℕ) → Ready.Refused n i ≡ framed bytes (at 0 first >>= λ k. refused n i)
+  pub body-refused : (n i : ℕ) → Counted.Refused n i ≡ framed bytes (at 0 first >>= λ k. refused n i)
   body-refused n i = rw (← e) refl
 
-  pub all-counted : (m : ℕ) {k n : ℕ} → k ≡ n → Ready.Frame bytes (x + m + k) ≡ framed bytes (at 0 first >>= λ j. accepted (j + m + n))
+  pub all-counted : (m : ℕ) {k n : ℕ} → k ≡ n → Counted.Frame bytes (x + m + k) ≡ framed bytes (at 0 first >>= λ j. accepted (j + m + n))
   all-counted m f = rw (← e, f) refl
 
 -- ---- what is written
 
-same : {a b : List Instruction} → _≡_ {A = Outcome (List Instruction)} (accepted a) (accepted b) → a ≡ b
-same e = cc
+-- whether the last record is Ret
+abbrev retOf : Result (List Instruction) → Bool
+retOf (ok ys) = endsInRet ys
+retOf (types.refused n) = true
 
--- the parts of an accepted list
-record Parts (p : Result (List Instruction)) (b : Outcome (List Instruction)) (is : List Instruction) : Type 0 where
-  xs : List Instruction
-  ys : List Instruction
-  first : p ≡ ok xs
-  rest : b ≡ accepted ys
-  few : length xs ≤ 19
-  whole : is ≡ (xs ++ ys) ++ ending (endsInRet ys)
+-- the list is its three parts
+in-turn : (p : Result (List Instruction)) (b : Outcome (List Instruction)) → Yields p Short →
+    withoutPlace (joined p b) ≡ then p (then (withoutPlace b) (ok (ending (retOf (withoutPlace b)))))
+in-turn (ok xs) (accepted ys) h = ap ok (joined-is xs ys (h .of xs refl .ends) ∙ append-assoc xs ys (ending (endsInRet ys)))
+in-turn (ok xs) (refused n i) h = refl
+in-turn (types.refused n) b h = refl
 
-parts-of : (p : Result (List Instruction)) (b : Outcome (List Instruction)) → Yields p Short → (is : List Instruction) → joined p b ≡ accepted is → Parts p b is
-parts-of (ok xs) (accepted ys) h is e =
-    record { xs = xs; ys = ys; first = refl; rest = refl; few = h .of xs refl .few; whole = sym (same e) ∙ joined-is xs ys (h .of xs refl .ends) }
-parts-of (ok xs) (refused n i) h is e = absurd (outcomes.never e)
-parts-of (types.refused n) (accepted ys) h is e = absurd (outcomes.never e)
-parts-of (types.refused n) (refused m i) h is e = absurd (outcomes.never e)
+-- a maker that has room does not refuse
+room-made : {r : Result (List Instruction)} {at m n : ℕ} {A : Type 0} → Ready true r at m → types.refused n ≡ counted r → A
+room-made {r} {at} {m} {n} {A} y e = go r (y .room refl) e
+  where
+    go : (r : Result (List Instruction)) → Fits r at m → types.refused n ≡ counted r → A
+    go (ok is) f e = absurd (never e)
+    go (types.refused k) f e = absurd f
 
-no-less : (xs ys es : List Instruction) → length ((xs ++ ys) ++ es) ≡ length xs + length ys + length es
-no-less xs ys es = rw (length-append, length-append) refl
+-- the parts of a sheet's list, of which n variables and m parameters were read
+module _ (tables offsets : List ℕ) (bytes : ℕ) (s : List ℕ) (n m : ℕ) where
+  abbrev whole : Result (List Instruction)
+  whole = withoutPlace (listOf tables offsets bytes s)
 
-module _ (p : Result (List Instruction)) (b whole : Outcome (List Instruction)) (e : joined p b ≡ whole) (y : Yields p Short) {old : List ℕ} (t : Accepts whole 0 old) where
-  parts : Parts p b (t .list)
-  parts = parts-of p b y (t .list) (e ∙ t .made)
+  abbrev first : Result (List Instruction)
+  first = funcPrologue (lent tables offsets) bytes (varsAt s m (6 + 2 * n))
 
-  long : length (t .list) ≡ length (parts .xs) + length (parts .ys) + length (ending (endsInRet (parts .ys)))
-  long = ap length (parts .whole) ∙ no-less (parts .xs) (parts .ys) (ending (endsInRet (parts .ys)))
+  abbrev body : Result (List Instruction)
+  body = withoutPlace (bodyOf tables offsets s)
 
-  pub needed-is : {n : ℕ} → accepted n ≡ countedOutcome whole → n ≡ length (t .list)
-  needed-is {n} f = let z : _≡_ {A = Outcome ℕ} (accepted n) (accepted (length (t .list))) = f ∙ ap countedOutcome (t .made) in cc
+  abbrev last : List Instruction
+  last = ending (retOf body)
 
-  -- the prologue is not refused
-  pub first-never : {n : ℕ} {A : Type 0} → types.refused n ≡ counted p → A
-  first-never e = absurd (never (e ∙ ap counted (parts .first)))
+  module _ (f : n ≡ cellAt s 0) (g : m ≡ cellAt s 1) (old : List ℕ) (room : Ready true whole 0 (length old)) where
+    start : Going true whole 0 old (then first (then body (ok last))) 0 old
+    start = begins true whole (then first (then body (ok last))) 0 old (sym (in-turn first (bodyOf tables offsets s) (prologue-short _ _ _)) ∙ ap withoutPlace (list-is tables offsets bytes s f g))
 
-  module _ {x : ℕ} (mid : List ℕ) (c : ok x ≡ counted p) (u : PutAll 0 p old mid) where
-    first-is : x ≡ length (parts .xs)
-    first-is = let z = c ∙ ap counted (parts .first) in cc
+    pub first-ready : Ready true first 0 (length old)
+    first-ready = next-ready start room first (then body (ok last)) refl refl
 
-    first-put : Put 0 (parts .xs) old mid
-    first-put = subst (λ (q : Result (List Instruction)). PutAll 0 q old mid) (parts .first) u
+    pub first-never : {A : Type 0} {k : ℕ} {mid : List ℕ} → Makes true first 0 old mid (CountResult.Refused k) → A
+    first-never r = room-made first-ready (r .says)
 
-    pub first-short : x ≤ 19
-    first-short = omega (arith, first-is, parts .few)
+    module _ {x : ℕ} {mid : List ℕ} (made : Makes true first 0 old mid (CountResult.Records x)) where
+      pub first-short : x ≤ mostBefore
+      first-short = first-few _ _ _ (made .says)
 
-    -- there is room for the body behind it
-    body-fits : Fits (parts .ys) (64 * x) mid
-    body-fits = omega (arith, first-is, long, t .fits, first-put .long)
+      behind-first : Going true whole 0 old (then body (ok last)) x mid
+      behind-first = let z : 0 + x ≡ x = omega arith in rw z at (next start room first (then body (ok last)) refl refl made)
 
-    pub body-takes : Accepts b (64 * x) mid
-    body-takes = record { list = parts .ys; made = parts .rest; fits = body-fits }
+      pub body-ready : Ready true body (64 * x) (length mid)
+      body-ready = next-ready behind-first room body (ok last) refl (omega arith)
 
-    module _ {m : ℕ} {late : List ℕ} (w : (is : List Instruction) → b ≡ accepted is → Wrote is (64 * x) m mid late) where
-      body-wrote : Wrote (parts .ys) (64 * x) m mid late
-      body-wrote = w (parts .ys) (parts .rest)
+      module _ {y : ℕ} {late : List ℕ} (wrote : Makes true body (64 * x) mid late (CountResult.Records y)) where
+        behind-body : Going true whole 0 old (ok last) (x + y) late
+        behind-body = next behind-first room body (ok last) refl (omega arith) wrote
 
-      pub made-long : x + m ≤ length (t .list)
-      made-long = omega (arith, first-is, body-wrote .count, long)
+        module _ {needed : ℕ} (many : ok needed ≡ counted whole) where
+          -- what is left of the needed records is the epilogue, or nothing
+          left-is : needed ≡ x + y + length last
+          left-is = let z : _≡_ {A = Result ℕ} (ok needed) (ok (length (behind-body .made ++ last))) = many ∙ ap counted (behind-body .is) in
+              let l : needed ≡ length (behind-body .made ++ last) = cc in
+              l ∙ length-append (behind-body .made) last ∙ omega (arith, behind-body .count)
 
-      body-put : Put (64 * x) (parts .ys) mid late
-      body-put = wrote-put body-wrote body-fits
+          pub made-few : x + y ≤ needed
+          made-few = omega (arith, left-is)
 
-      pub as-long : length late ≡ length old
-      as-long = body-put .long ∙ first-put .long
+          -- none is left
+          pub all-written : needed ≤ x + y → Makes true whole 0 old late (CountResult.Records needed)
+          all-written h =
+              let l : needed ≡ x + y = omega (arith, made-few) in
+              rw l (finishes behind-body room (go (retOf body) (omega (arith, left-is))))
+            where
+              go : (t : Bool) → length (ending t) ≤ 0 → _≡_ {A = Result (List Instruction)} (ok (ending t)) (ok [])
+              go true k = refl
+              go false k = absurd (omega arith)
 
-      end-written : {new : List ℕ} (es : List Instruction) → ending (endsInRet (parts .ys)) ≡ es → Put (64 * (x + m)) es late new → (is : List Instruction) → whole ≡ accepted is →
-          new ≡ write old 0 (listBytes is)
-      end-written {new} es q k is f =
-          let l : t .list ≡ is = same (sym (t .made) ∙ f) in
-          let v : is ≡ (parts .xs ++ parts .ys) ++ es = sym l ∙ parts .whole ∙ ap (λ (d : List Instruction). (parts .xs ++ parts .ys) ++ d) q in
-          let n : length (parts .xs ++ parts .ys) ≡ length (parts .xs) + length (parts .ys) = length-append (parts .xs) (parts .ys) in
-          let o = put-more (put-more first-put (omega (arith, first-is)) body-put) (omega (arith, first-is, body-wrote .count)) k in
-          rw v (o .bytes (rw (← v, ← l) (t .fits)))
+          module _ (h : x + y < needed) where
+            last-due : last ≡ funcEpilogue
+            last-due = go (retOf body) (omega (arith, left-is))
+              where
+                go : (t : Bool) → 0 < length (ending t) → ending t ≡ funcEpilogue
+                go true k = absurd (omega arith)
+                go false k = refl
 
-      -- no epilogue is left to write
-      pub all-written : length (t .list) ≤ x + m → (is : List Instruction) → whole ≡ accepted is → late ≡ write old 0 (listBytes is)
-      all-written h = go (endsInRet (parts .ys)) refl
-        where
-          go : (r : Bool) → endsInRet (parts .ys) ≡ r → (is : List Instruction) → whole ≡ accepted is → late ≡ write old 0 (listBytes is)
-          go true q = end-written [] (ap ending q) (put-none (64 * (x + m)) late)
-          go false q = let k = ap (λ (r : Bool). length (ending r)) q in absurd (omega (arith, first-is, body-wrote .count, long))
+            -- there is room for the epilogue
+            pub last-ready : Ready true (ok funcEpilogue) (64 * (x + y)) (length late)
+            last-ready = next-ready behind-body room (ok funcEpilogue) (ok []) (ap ok last-due) (omega arith)
 
-      module _ (h : x + m < length (t .list)) where
-        last-due : ending (endsInRet (parts .ys)) ≡ funcEpilogue
-        last-due = go (endsInRet (parts .ys)) refl
-          where
-            go : (r : Bool) → endsInRet (parts .ys) ≡ r → ending r ≡ funcEpilogue
-            go true q = let k = ap (λ (r : Bool). length (ending r)) q in absurd (omega (arith, first-is, body-wrote .count, long))
-            go false q = refl
-
-        -- there is room for the epilogue
-        pub last-takes : 64 * (x + m) + 192 ≤ length late
-        last-takes =
-            let k : length (ending (endsInRet (parts .ys))) ≡ 3 = ap length last-due in
-            omega (arith, first-is, body-wrote .count, long, t .fits, as-long)
-
-        pub last-long : {new : List ℕ} → new ≡ write late (64 * (x + m)) (listBytes funcEpilogue) → length new ≡ length old
-        last-long f = ap length f ∙ write-length late (listBytes funcEpilogue) (64 * (x + m)) (omega (arith, listBytes-length funcEpilogue, last-takes)) ∙ as-long
-
-        pub last-written : {new : List ℕ} → new ≡ write late (64 * (x + m)) (listBytes funcEpilogue) → (is : List Instruction) → whole ≡ accepted is → new ≡ write old 0 (listBytes is)
-        last-written f =
-            end-written funcEpilogue last-due
-            (record { long = last-long f ∙ sym as-long; bytes = λ z. f })
+            pub last-written : {new : List ℕ} → new ≡ write late (64 * (x + y)) (listBytes funcEpilogue) → Makes true whole 0 old new (CountResult.Records needed)
+            last-written f =
+                let l : needed ≡ x + y + 3 = omega (arith, left-is, ap length last-due) in
+                rw l (finishes (next behind-body room (ok funcEpilogue) (ok []) (ap ok last-due) (omega arith) (record { says = refl; bytes = f })) room refl)

@@ -11,36 +11,41 @@ use Rattle.cells.specs.Cells.{cellAt, write}
 use Rattle.cells.specs.declared.Cursor.{Cursor}
 use Rattle.layout.specs.declared.Checked.{Checked}
 use Rattle.layout.specs.declared.Limited.{Limited}
-use Rattle.laid.specs.Laid.{accepts}
 use Rattle.layout.proofs.Passed.{apart}
-use Rattle.layout.specs.Layout.{bindLimited, bindChecked, tablesCheck, sheetCheck, instrsCheck, endCheck}
+use Rattle.layout.specs.Layout.{accepts, bindLimited, bindChecked, tablesCheck, sheetCheck, instrsCheck, endCheck}
 use Rattle.ir.specs.declared.«Type».{«Type» as IrType}
 use Rattle.ir.specs.declared.types.Number.{Number}
-use Rattle.ir.specs.Types.{lastOffset}
+use Rattle.ir.specs.Types.{Result, ok, lastOffset}
 use Rattle.ir.specs.Function.{typesAt, varsAt, paramsFrom, tablesOf, functionOf}
 use Rattle.x86.specs.declared.enums.Instruction.{Instruction}
 use Rattle.x86.specs.Records.{listBytes}
+use Rattle.x86.proofs.Lists.{listBytes-length}
 use Rattle.codegen.specs.Frame.{offsetsFrom, haveWidths, varOffsets, funcPrologue}
 use Rattle.codegen.specs.Generation.{Outcome, accepted, refused, _>>=_, checked, generate, compiled, page, lowered, recordsAfter}
+use Rattle.codegen.proofs.Results.{never}
 use Rattle.machine.specs.Plain.{Plain}
 use Rattle.machine.specs.Calls.{Demand2}
 use Rattle.machine.specs.Simulation.{Demand3}
 use Rattle.machine.proofs.Accepted as outcomes
 use Rattle.machine.proofs.Demand2.{demand2}
 use Rattle.machine.proofs.Demand3.{demand3}
-use Rattle.utils.specs.Answers.{lent}
-use Rattle.utils.proofs.Emitted.{listBytes-length}
+use Rattle.utils.specs.Answers.{lent, counted}
+use Rattle.utils.specs.declared.CountResult.{CountResult}
+use Rattle.utils.specs.Makes.{Makes, Ready}
 use Rattle.frame.specs.declared.Typed.{Typed}
 use Rattle.frame.specs.Sizes.{totalOf, sizesAt}
 use Rattle.generation.specs.declared.Answer.{Answer}
-use Rattle.generation.specs.declared.pass.Ready.{Ready}
+use Rattle.generation.specs.declared.pass.Counted.{Counted}
 use Rattle.generation.specs.Answers.{answerSays, countedOutcome}
-use Rattle.bodies.specs.Head.{headCheck}
+use Rattle.body.specs.Head.{headCheck}
 use Rattle.generation.specs.Head.{headed, Lies}
-use Rattle.bodies.specs.Body.{bodyOf, Accepts, passedOf}
+use Rattle.body.specs.declared.Passed.{Passed}
+use Rattle.body.specs.declared.Surveyed.{Surveyed}
+use Rattle.body.specs.Body.{bodyOf, withoutPlace, passedOf, surveyOf}
 use Rattle.generation.specs.Pass.{listOf}
-use Rattle.generation.specs.Survey.{Opens, LendsIf, countedList, rounded, framed, sizedThen, readySays}
-use Rattle.bodies.proofs.Heads.{sheet-head, head-right, head-total}
+use Rattle.generation.specs.Survey.{Opens, LendsIf, countedList, rounded, framed, sizedThen, countedSays}
+use Rattle.body.proofs.Heads.{sheet-head, head-right, head-total}
+use Rattle.body.proofs.Running.{survey-laid, survey-wrong}
 use Rattle.generation.proofs.Listing.{prologue-short, list-is, list-counted}
 
 -- ---- the offsets
@@ -102,16 +107,19 @@ module _ (tables s : List ℕ) where
       let w : sheetCheck s ≡ Checked.Refused n k = sheet-head s ∙ ap (λ (x : Limited). bindLimited x (λ instrs d. bindChecked (instrsCheck s instrs d) (λ end. endCheck 2 s end))) h in
       sheet-next e ∙ ap (λ (x : Checked). checked x (λ u. generate (tablesOf tables) (functionOf s))) w
 
-  abbrev Says : Ready → List ℕ → Type 0
-  Says r offsets = (readySays r ≡ countedOutcome (compiled tables s)) × LendsIf r tables s offsets
+  abbrev Says : Counted → List ℕ → Type 0
+  Says r offsets = (countedSays r ≡ countedOutcome (compiled tables s)) × LendsIf r tables s offsets
 
   module _ (offsets : List ℕ) {total : Number} {c : Cursor} (o : Opens tables s offsets total c) where
+    abbrev prologue : ℕ → Result (List Instruction)
+    prologue bytes = funcPrologue (lent tables offsets) bytes (varsAt s (cellAt s 1) (paramsFrom s))
+
     abbrev rest : ℕ → Outcome ℕ
-    rest bytes = countedList (funcPrologue (lent tables offsets) bytes (varsAt s (cellAt s 1) (paramsFrom s))) (passedOf (bodyOf tables offsets s))
+    rest bytes = countedList (prologue bytes) (passedOf (bodyOf tables offsets s))
 
     rest-is : (bytes : ℕ) → rest bytes ≡ countedOutcome (listOf tables offsets bytes s)
     rest-is bytes =
-        list-counted (funcPrologue (lent tables offsets) bytes (varsAt s (cellAt s 1) (paramsFrom s))) (bodyOf tables offsets s)
+        list-counted (prologue bytes) (bodyOf tables offsets s)
         (prologue-short (lent tables offsets) bytes (varsAt s (cellAt s 1) (paramsFrom s)))
         ∙ ap countedOutcome (list-is tables offsets bytes s refl refl)
 
@@ -130,21 +138,26 @@ module _ (tables s : List ℕ) where
         go (accepted m) f = (f ∙ ap countedOutcome (sym all), record { laid = record { end = w; is = q }; list = all })
         go (refused m place) f = (f ∙ ap countedOutcome (sym all), tt)
 
-    -- .. or wrong, in an instruction or behind the last
-    pub instrs-say : {n k : ℕ} → instrsCheck s (cellAt s 5) c ≡ Checked.Refused n k → Says (Ready.Refused n k) offsets
-    instrs-say e =
-        let q = rest-checked (o .head) ∙ ap (λ (x : Checked). bindChecked x (λ end. endCheck 2 s end)) e in
-        (ap countedOutcome (sym (laid-next q)), tt)
+    -- the survey of its instructions
+    module _ {r : Surveyed} (e : r ≡ surveyOf (instrsCheck s (cellAt s 5) c) (passedOf (bodyOf tables offsets s))) where
+      checked-next : {x : Checked} → instrsCheck s (cellAt s 5) c ≡ x → sheetCheck s ≡ bindChecked x (λ end. endCheck 2 s end)
+      checked-next f = rest-checked (o .head) ∙ ap (λ (x : Checked). bindChecked x (λ end. endCheck 2 s end)) f
 
-    module _ {d : Cursor} (e : instrsCheck s (cellAt s 5) c ≡ Checked.Behind d) where
-      end-next : sheetCheck s ≡ endCheck 2 s d
-      end-next = rest-checked (o .head) ∙ ap (λ (x : Checked). bindChecked x (λ end. endCheck 2 s end)) e
+      -- a wrong cell in an instruction
+      pub instrs-say : {n k : ℕ} → r ≡ Surveyed.Wrong n k → Says (Counted.Refused n k) offsets
+      instrs-say f = (ap countedOutcome (sym (laid-next (checked-next (survey-wrong _ (passedOf (bodyOf tables offsets s)) (sym f ∙ e))))), tt)
 
-      pub end-says : {n k : ℕ} → endCheck 2 s d ≡ Checked.Refused n k → Says (Ready.Refused n k) offsets
-      end-says f = (ap countedOutcome (sym (laid-next (end-next ∙ f))), tt)
+      module _ {p : Passed} {d : Cursor} (f : r ≡ Surveyed.Laid p d) where
+        laid : (instrsCheck s (cellAt s 5) c ≡ Checked.Behind d) × (p ≡ passedOf (bodyOf tables offsets s))
+        laid = survey-laid (instrsCheck s (cellAt s 5) c) (passedOf (bodyOf tables offsets s)) (sym f ∙ e)
 
-      pub survey-says : {w : Cursor} {r : Ready} → endCheck 2 s d ≡ Checked.Behind w → r ≡ sizedThen total rest → Says r offsets
-      survey-says f g = rw g (sized-says (end-next ∙ f) total (o .sizes))
+        -- .. or behind the last
+        pub end-says : {x : Checked} {n k : ℕ} → x ≡ endCheck 2 s d → x ≡ Checked.Refused n k → Says (Counted.Refused n k) offsets
+        end-says g h = (ap countedOutcome (sym (laid-next (checked-next (laid .0) ∙ sym g ∙ h))), tt)
+
+        -- none
+        pub survey-says : {x : Checked} {w : Cursor} {q : Counted} → x ≡ endCheck 2 s d → x ≡ Checked.Behind w → q ≡ sizedThen total (λ bytes. countedList (prologue bytes) p) → Says q offsets
+        survey-says g h k = rw (k, laid .1) (sized-says (checked-next (laid .0) ∙ sym g ∙ h) total (o .sizes))
 
 -- ---- the head that is read
 
@@ -171,9 +184,6 @@ opens tables s offsets {total} {c} e f l =
 pub lent-long : (s offsets : List ℕ) {n : ℕ} → cellAt s 0 ≤ 256 → length offsets ≡ 256 → n ≡ cellAt s 0 → n ≡ length (take n offsets)
 lent-long s offsets {n} h l e = sym (length-take-le n offsets (omega arith))
 
-pub lent-few : (s offsets : List ℕ) {n : ℕ} → cellAt s 0 ≤ 256 → length offsets ≡ 256 → n ≡ cellAt s 0 → length (take n offsets) ≤ 256
-lent-few s offsets {n} h l e = omega (arith, lent-long s offsets h l e)
-
 -- ---- page full
 
 abbrev pub Left : Outcome ℕ → List ℕ → List ℕ → Outcome (List Instruction) → Type 0
@@ -193,22 +203,29 @@ paged-full (accepted is) old {n} e h =
     rw (lt-ltb (length old) (64 * length is) k) (ap (λ (m : ℕ). refused 9 m) l, refl)
 paged-full (refused m k) old e h = absurd (outcomes.never (sym e))
 
-pub paged-made : (q : Outcome (List Instruction)) (old new : List ℕ) {n : ℕ} → accepted n ≡ countedOutcome q → n ≤ length old / 64 →
-    ((is : List Instruction) → q ≡ accepted is → new ≡ write old 0 (listBytes is)) → Left (accepted n) old new (q >>= page (length old))
+pub paged-made : (q : Outcome (List Instruction)) (old new : List ℕ) {n : ℕ} → Makes true (withoutPlace q) 0 old new (CountResult.Records n) → n ≤ length old / 64 →
+    Left (accepted n) old new (q >>= page (length old))
 unfolding recordsAfter write
-paged-made (accepted is) old new {n} e h p =
-    let l : n ≡ length is = let z = e in cc in
+paged-made (accepted is) old new {n} m h =
+    let l : n ≡ length is = let z = m .says in cc in
     let k : 64 * length is ≤ length old = omega arith in
     let b : 0 + length (listBytes is) ≡ 64 * length is = omega (arith, listBytes-length is) in
-    rw (le-ltb (length old) (64 * length is) k) (e, p is refl ∙ ap (λ (j : ℕ). listBytes is ++ drop j old) b)
-paged-made (refused m k) old new e h p = absurd (outcomes.never (sym e))
+    rw (le-ltb (length old) (64 * length is) k) (ap accepted l, m .bytes ∙ ap (λ (j : ℕ). listBytes is ++ drop j old) b)
+paged-made (refused m k) old new e h = absurd (never (sym (e .says)))
 
--- the list that is written has room
-pub list-takes : (q : Outcome (List Instruction)) (old : List ℕ) {n : ℕ} → accepted n ≡ countedOutcome q → n ≤ length old / 64 → Accepts q 0 old
-list-takes (accepted is) old {n} e h =
+-- ---- the list that is written
+
+-- so many records
+pub so-many : (q : Outcome (List Instruction)) {n : ℕ} → accepted n ≡ countedOutcome q → ok n ≡ counted (withoutPlace q)
+so-many (accepted is) e = let z : _≡_ {A = Outcome ℕ} (accepted _) (accepted (length is)) = e in cc
+so-many (refused m k) e = absurd (outcomes.never (sym e))
+
+-- .. have room
+pub list-ready : (q : Outcome (List Instruction)) {n m : ℕ} → accepted n ≡ countedOutcome q → n ≤ m / 64 → Ready true (withoutPlace q) 0 m
+list-ready (accepted is) {n} e h =
     let l : n ≡ length is = let z = e in cc in
-    record { list = is; made = refl; fits = omega arith }
-list-takes (refused m k) old e h = absurd (outcomes.never (sym e))
+    record { room = λ w. omega arith }
+list-ready (refused m k) e h = absurd (outcomes.never (sym e))
 
 -- ---- the whole
 

@@ -1,4 +1,4 @@
--- What the public answers say (01, "The turned-away slip"): a number of records, or a refusal with its place.
+-- Believed: the contracts of `count` and `generate` are said with it. What the public answers say (01, "The turned-away slip"): a number of records, or a refusal with its place.
 use Prim.Native.Nat.{ℕ}
 use mathlib.Core.List.{List}
 use lib.ListN.{length}

@@ -1,4 +1,5 @@
--- What is read of the sheet before its instructions: the cursor of the first, the sizes and offsets of the variables.
+-- Auxiliary: what is read of the sheet before its instructions, body's `headCheck` with the sizes and the offsets of the variables beside it, by `head-says`
+-- (proofs/Heads).
 use Prim.Native.Nat.{ℕ}
 use mathlib.Core.Path.{_≡_}
 use mathlib.Core.List.{List}

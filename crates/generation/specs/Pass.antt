@@ -1,4 +1,4 @@
--- The list of a function (Krc's `generate`, codegen/generation.rs), part by part.
+-- Auxiliary: the list of a function, part by part, of the offsets and the frame that are lent; equal to codegen's `generate` by `generated` (proofs/Lowering).
 use Prim.Native.Nat.{ℕ}
 use mathlib.Core.List.{List, [], _++_}
 use mathlib.Core.Bool.{Bool, true, false}
@@ -9,7 +9,7 @@ use Rattle.codegen.specs.Instructions.{funcEpilogue}
 use Rattle.codegen.specs.Frame.{funcPrologue}
 use Rattle.codegen.specs.Generation.{Outcome, accepted, _>>=_, at, withEpilogue}
 use Rattle.utils.specs.Answers.{lent}
-use Rattle.bodies.specs.Body.{bodyOf}
+use Rattle.body.specs.Body.{bodyOf}
 
 -- prologue, body, and the epilogue unless the last record is Ret
 unfoldable pub listOf : List ℕ → List ℕ → ℕ → List ℕ → Outcome (List Instruction)

@@ -1,4 +1,5 @@
--- What a sheet comes to before a record of it is written: its layout, the bytes of its frame, and how many records it makes.
+-- Auxiliary: what a sheet comes to before a record of it is written: its layout, the bytes of its frame, and how many records it makes, as many as codegen's
+-- `compiled` has by `survey-says` (proofs/Lowering).
 use Prim.Native.Nat.{ℕ, _+_, _*_, _/_}
 use mathlib.Core.Path.{_≡_}
 use mathlib.Core.List.{List}
@@ -10,18 +11,16 @@ use Rattle.ir.specs.Types.{Result}
 use Rattle.ir.specs.Function.{typesAt}
 use Rattle.cells.specs.declared.Cursor.{Cursor}
 use Rattle.layout.specs.declared.Limited.{Limited}
-use Rattle.laid.specs.Laid.{accepts}
-use Rattle.layout.specs.Layout.{tablesCheck}
+use Rattle.layout.specs.Layout.{accepts, tablesCheck, Laid}
 use Rattle.x86.specs.declared.enums.Instruction.{Instruction}
 use Rattle.codegen.specs.Frame.{offsetsFrom}
 use Rattle.codegen.specs.Generation.{Outcome, accepted, refused, _>>=_, at, compiled}
 use Rattle.utils.specs.Answers.{counted}
 use Rattle.frame.specs.Sizes.{sizesAt}
-use Rattle.bodies.specs.declared.Passed.{Passed}
+use Rattle.body.specs.declared.Passed.{Passed}
 use Rattle.generation.specs.declared.pass.Opened.{Opened}
-use Rattle.generation.specs.declared.pass.Ready.{Ready}
-use Rattle.bodies.specs.Head.{headCheck}
-use Rattle.layout.specs.Layout.{Laid}
+use Rattle.generation.specs.declared.pass.Counted.{Counted}
+use Rattle.body.specs.Head.{headCheck}
 use Rattle.generation.specs.Pass.{ending, listOf}
 
 -- ---- the list
@@ -35,14 +34,14 @@ countedList prologue (Passed.Refused n place) = at 0 (counted prologue) >>= λ f
 abbrev pub rounded : ℕ → ℕ
 rounded total = (total + 15) / 16 * 16
 
-abbrev pub framed : ℕ → Outcome ℕ → Ready
-framed bytes (accepted n) = Ready.Frame bytes n
-framed bytes (refused n place) = Ready.Refused n place
+abbrev pub framed : ℕ → Outcome ℕ → Counted
+framed bytes (accepted n) = Counted.Frame bytes n
+framed bytes (refused n place) = Counted.Refused n place
 
 -- what follows the total of the variables' sizes
-abbrev pub sizedThen : Number → (ℕ → Outcome ℕ) → Ready
+abbrev pub sizedThen : Number → (ℕ → Outcome ℕ) → Counted
 sizedThen (Number.Is total) rest = framed (rounded total) (rest (rounded total))
-sizedThen (Number.Refused n) rest = Ready.Refused n 0
+sizedThen (Number.Refused n) rest = Counted.Refused n 0
 
 -- ---- the whole
 
@@ -57,15 +56,15 @@ abbrev pub OpensIf : Opened → List ℕ → List ℕ → List ℕ → Type 0
 OpensIf (Opened.Sheet total from) tables s offsets = Opens tables s (take (cellAt s 0) offsets) total from
 OpensIf (Opened.Refused n place) tables s offsets = compiled tables s ≡ refused n place
 
-abbrev pub readySays : Ready → Outcome ℕ
-readySays (Ready.Frame bytes n) = accepted n
-readySays (Ready.Refused n place) = refused n place
+abbrev pub countedSays : Counted → Outcome ℕ
+countedSays (Counted.Frame bytes n) = accepted n
+countedSays (Counted.Refused n place) = refused n place
 
 -- the sheet, the offsets and the frame that the list is written from
 pub record Lends (tables s offsets : List ℕ) (bytes : ℕ) : Type 0 where
   pub laid : Laid s
   pub list : compiled tables s ≡ listOf tables offsets bytes s
 
-abbrev pub LendsIf : Ready → List ℕ → List ℕ → List ℕ → Type 0
-LendsIf (Ready.Frame bytes n) tables s offsets = Lends tables s offsets bytes
-LendsIf (Ready.Refused n place) tables s offsets = Unit {0}
+abbrev pub LendsIf : Counted → List ℕ → List ℕ → List ℕ → Type 0
+LendsIf (Counted.Frame bytes n) tables s offsets = Lends tables s offsets bytes
+LendsIf (Counted.Refused n place) tables s offsets = Unit {0}

@@ -2,9 +2,9 @@
 use cells::Cursor;
 use frame::Typed;
 use frame::var_offsets;
-use laid::vars_check;
 use layout::Checked;
 use layout::Limited;
+use layout::lists::vars_check;
 use layout::parts::limited;
 use layout::parts::return_check;
 ghost use mathlib.Core.Path.{_≡_};
@@ -13,10 +13,10 @@ ghost use Prim.Native.Nat.{_+_, _≤_};
 ghost use lib.ListN.{length, take};
 ghost use Rattle.cells.specs.Cells.{cellAt};
 ghost use Rattle.ir.specs.Function.{typesAt};
-ghost use Rattle.laid.specs.Laid.{accepts};
+ghost use Rattle.layout.specs.Layout.{accepts};
 ghost use Rattle.codegen.specs.Frame.{offsetsFrom};
 ghost use Rattle.frame.specs.Sizes.{sizesAt, typedOf};
-ghost use Rattle.bodies.specs.Head.{listsHead, restHead, headCheck};
+ghost use Rattle.body.specs.Head.{listsHead, restHead, headCheck};
 ghost use Rattle.generation.specs.Head.{headed, Lies};
 
 // The types of so many variables, and so many parameters.

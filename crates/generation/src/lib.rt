@@ -2,8 +2,8 @@
 mod head;
 mod pass;
 
+use crate::pass::Counted;
 use crate::pass::Opened;
-use crate::pass::Ready;
 use crate::pass::open_sheet;
 use crate::pass::survey;
 use crate::pass::write_list;
@@ -11,7 +11,7 @@ use cells::Cursor;
 use cells::cell_at;
 use ir::types::Number;
 ghost use mathlib.Core.Path.{_≡_};
-ghost use Prim.Native.Nat.{ℕ, _≤_};
+ghost use Prim.Native.Nat.{ℕ};
 ghost use lib.ListN.{length};
 ghost use Rattle.codegen.specs.Generation.{compiled, lowered, recordsAfter};
 ghost use Rattle.machine.specs.Plain.{Plain};
@@ -35,8 +35,8 @@ pub fn count(tables: &[u8], sheet: &[u8]) -> Answer
         Opened::Sheet(total, from) => {
             let n = cell_at(sheet, 0) as usize;
             match survey(tables, &offsets[..n], sheet, total, from) {
-                Ready::Frame(_, needed) => Answer::Accepted(needed),
-                Ready::Refused(number, place) => Answer::Refused(number, place),
+                Counted::Frame(_, needed) => Answer::Accepted(needed),
+                Counted::Refused(number, place) => Answer::Refused(number, place),
             }
         }
         Opened::Refused(number, place) => Answer::Refused(number, place),
@@ -53,19 +53,18 @@ fn lower(
     out: &mut [u8],
 ) -> Answer
     requires { ⌜ Opens (now tables) (now sheet) (now offsets) total from ⌝ }
-    requires { ⌜ length (now offsets) ≤ 256 ⌝ }
     ensures { λ r. ⌜ answerSays r ≡ countedOutcome (lowered (now (tables .entry)) (now (sheet .entry)) (length (now (out .entry)))) ⌝ }
     ensures { λ r. ⌜ now (out .exit) ≡ recordsAfter (lowered (now (tables .entry)) (now (sheet .entry)) (length (now (out .entry)))) (now (out .entry)) ⌝ }
 {
     match survey(tables, offsets, sheet, total, from) {
-        Ready::Frame(bytes, needed) => {
+        Counted::Frame(bytes, needed) => {
             if ((out.len() / 64) as u64) < needed {
                 return Answer::Refused(9, needed);
             }
             write_list(tables, offsets, sheet, bytes, needed, out);
             Answer::Accepted(needed)
         }
-        Ready::Refused(number, place) => Answer::Refused(number, place),
+        Counted::Refused(number, place) => Answer::Refused(number, place),
     }
 }
 

@@ -1,41 +1,38 @@
 // The two passes over a sheet: the first surveys it, the second writes its list.
 use crate::head::head_check;
-use bodies::Passed;
-use bodies::Surveyed;
-use bodies::survey_body;
-use bodies::write_body;
+use body::Passed;
+use body::Surveyed;
+use body::survey_body;
+use body::write_body;
 use cells::Cursor;
 use cells::cell_at;
 use frame::Typed;
 use frame::func_prologue;
-use integers::cellwise::frame_left;
-use integers::cellwise::pop_rbp;
-use integers::cellwise::ret;
+use instructions::func_epilogue;
 use ir::types::Number;
 use layout::Checked;
 use layout::parts::end_check;
 use layout::tables::tables_check;
-use records::put_three;
-use utils::Made;
+use utils::CountResult;
 ghost use mathlib.Core.Path.{_≡_};
-ghost use mathlib.Core.List.{List};
+ghost use mathlib.Core.Bool.{true};
 ghost use Prim.Native.Nat.{_≤_};
 ghost use lib.ListN.{length};
-ghost use Rattle.cells.specs.Cells.{cellAt, write};
+ghost use Rattle.cells.specs.Cells.{cellAt};
+ghost use Rattle.ir.specs.Types.{ok};
 ghost use Rattle.ir.specs.Function.{varsAt, paramsFrom};
 ghost use Rattle.layout.specs.declared.Limited.{Limited};
-ghost use Rattle.x86.specs.declared.enums.Instruction.{Instruction};
-ghost use Rattle.x86.specs.Records.{listBytes};
-ghost use Rattle.codegen.specs.Frame.{funcPrologue};
-ghost use Rattle.codegen.specs.Generation.{accepted, compiled};
-ghost use Rattle.utils.specs.Answers.{lent};
-ghost use Rattle.frame.specs.Sizes.{sizesAt};
-ghost use Rattle.generation.specs.Answers.{countedOutcome};
-ghost use Rattle.bodies.specs.Head.{headCheck};
 ghost use Rattle.layout.specs.Layout.{Laid};
+ghost use Rattle.codegen.specs.Frame.{funcPrologue};
+ghost use Rattle.codegen.specs.Generation.{compiled};
+ghost use Rattle.utils.specs.Answers.{lent, counted};
+ghost use Rattle.utils.specs.Makes.{Makes, Ready};
+ghost use Rattle.frame.specs.Sizes.{sizesAt};
+ghost use Rattle.body.specs.Head.{headCheck};
+ghost use Rattle.body.specs.Body.{madeBy, mostInBody, withoutPlace};
+ghost use Rattle.generation.specs.Answers.{countedOutcome};
 ghost use Rattle.generation.specs.Pass.{listOf, ending};
-ghost use Rattle.bodies.specs.Body.{Accepts, madeBy};
-ghost use Rattle.generation.specs.Survey.{Opens, OpensIf, LendsIf, countedList, sizedThen, readySays};
+ghost use Rattle.generation.specs.Survey.{Opens, OpensIf, LendsIf, countedList, sizedThen, countedSays};
 
 // The total of the variables' sizes and the cursor of the first instruction, or a refusal with its place.
 pub enum Opened {
@@ -44,7 +41,7 @@ pub enum Opened {
 }
 
 // The bytes of the frame and the number of records, or a refusal with its place.
-pub enum Ready {
+pub enum Counted {
     Frame(u64, u64),
     Refused(u64, u64),
 }
@@ -65,15 +62,15 @@ fn count_list(
     total: Number,
     from: Cursor,
     body: Passed,
-) -> Ready
+) -> Counted
     requires { ⌜ headCheck (now sheet) ≡ Limited.Word (cellAt (now sheet) 5) from ⌝ }
     requires { ⌜ total ≡ sizesAt (now sheet) (cellAt (now sheet) 0) 6 ⌝ }
-    requires { ⌜ madeBy body ≤ 69632 ⌝ }
+    requires { ⌜ madeBy body ≤ mostInBody ⌝ }
     ensures { λ r. ⌜ r ≡ sizedThen total (λ bytes. countedList (funcPrologue (lent (now (tables .entry)) (now (offsets .entry))) bytes (varsAt (now (sheet .entry)) (cellAt (now (sheet .entry)) 1) (paramsFrom (now (sheet .entry))))) body) ⌝ }
 {
     let bytes = match total {
         Number::Is(total) => (total + 15) / 16 * 16,
-        Number::Refused(number) => return Ready::Refused(number, 0),
+        Number::Refused(number) => return Counted::Refused(number, 0),
     };
     let mut none = [0u8; 1];
     let params = 6 + 2 * cell_at(sheet, 0) as usize;
@@ -85,13 +82,14 @@ fn count_list(
         params,
         bytes,
         &mut none,
+        false,
     ) {
-        Made::Records(first) => first,
-        Made::Refused(number) => return Ready::Refused(number, 0),
+        CountResult::Records(first) => first,
+        CountResult::Refused(number) => return Counted::Refused(number, 0),
     };
     match body {
-        Passed::Made(rest, ret) => Ready::Frame(bytes, first + rest + ending(ret)),
-        Passed::Refused(number, place) => Ready::Refused(number, place),
+        Passed::Made(rest, ret) => Counted::Frame(bytes, first + rest + ending(ret)),
+        Passed::Refused(number, place) => Counted::Refused(number, place),
     }
 }
 
@@ -111,18 +109,17 @@ pub fn open_sheet(tables: &[u8], sheet: &[u8], offsets: &mut [u64; 256]) -> Open
 }
 
 // The layout of its instructions, nothing behind them, and the number of records.
-pub fn survey(tables: &[u8], offsets: &[u64], sheet: &[u8], total: Number, from: Cursor) -> Ready
+pub fn survey(tables: &[u8], offsets: &[u64], sheet: &[u8], total: Number, from: Cursor) -> Counted
     requires { ⌜ Opens (now tables) (now sheet) (now offsets) total from ⌝ }
-    requires { ⌜ length (now offsets) ≤ 256 ⌝ }
-    ensures { λ r. ⌜ readySays r ≡ countedOutcome (compiled (now (tables .entry)) (now (sheet .entry))) ⌝ }
+    ensures { λ r. ⌜ countedSays r ≡ countedOutcome (compiled (now (tables .entry)) (now (sheet .entry))) ⌝ }
     ensures { λ r. ⌜ LendsIf r (now (tables .entry)) (now (sheet .entry)) (now (offsets .entry)) ⌝ }
 {
     match survey_body(tables, offsets, sheet, from) {
         Surveyed::Laid(body, end) => match end_check(2, sheet, end) {
             Checked::Behind(_) => count_list(tables, offsets, sheet, total, from, body),
-            Checked::Refused(number, cell) => Ready::Refused(number, cell as u64),
+            Checked::Refused(number, cell) => Counted::Refused(number, cell as u64),
         },
-        Surveyed::Wrong(number, cell) => Ready::Refused(number, cell as u64),
+        Surveyed::Wrong(number, cell) => Counted::Refused(number, cell as u64),
     }
 }
 
@@ -136,9 +133,9 @@ pub fn write_list(
     out: &mut [u8],
 )
     requires { ⌜ Laid (now sheet) ⌝ }
-    requires { ⌜ Accepts (listOf (now tables) (now offsets) bytes (now sheet)) 0 (now out) ⌝ }
-    requires { ⌜ accepted needed ≡ countedOutcome (listOf (now tables) (now offsets) bytes (now sheet)) ⌝ }
-    ensures { λ _. ⌜ ((is : List Instruction) → listOf (now (tables .entry)) (now (offsets .entry)) bytes (now (sheet .entry)) ≡ accepted is → now (out .exit) ≡ write (now (out .entry)) 0 (listBytes is)) ⌝ }
+    requires { ⌜ Ready true (withoutPlace (listOf (now tables) (now offsets) bytes (now sheet))) 0 (length (now out)) ⌝ }
+    requires { ⌜ ok needed ≡ counted (withoutPlace (listOf (now tables) (now offsets) bytes (now sheet))) ⌝ }
+    ensures { λ _. ⌜ Makes true (withoutPlace (listOf (now (tables .entry)) (now (offsets .entry)) bytes (now (sheet .entry)))) 0 (now (out .entry)) (now (out .exit)) (CountResult.Records needed) ⌝ }
 {
     let params = 6 + 2 * cell_at(sheet, 0) as usize;
     let first = match func_prologue(
@@ -149,12 +146,13 @@ pub fn write_list(
         params,
         bytes,
         out,
+        true,
     ) {
-        Made::Records(first) => first,
-        Made::Refused(_) => return,
+        CountResult::Records(first) => first,
+        CountResult::Refused(_) => return,
     };
     let made = first + write_body(tables, offsets, sheet, first, out);
     if made < needed {
-        put_three(out, 64 * made as usize, frame_left(), pop_rbp(), ret());
+        func_epilogue(out, 64 * made as usize);
     }
 }

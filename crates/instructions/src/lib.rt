@@ -1,21 +1,17 @@
-// Krc's codegen/instructions.rs, but for casts and calls: the records of a return, a copy, a zero, a label and a jump.
-use ir::Operand as IrOp;
+// Krc's codegen/instructions.rs, but for casts and calls: the records of one instruction, counted or written.
+use cells::cell_at;
 use ir::Type;
-use ir::VarId;
+use ir::read::operand_at;
+use ir::read::type_at;
 use ir::types::Number;
-use records::Records;
-use records::four;
-use records::one;
-use records::three;
-use records::two;
-use utils::Flag;
-use utils::Loaded;
-use utils::Placed;
-use utils::Sized;
-use utils::convert_var;
-use utils::float_short;
-use utils::load_operand;
-use utils::var_size;
+use utils::CountResult;
+use utils::OperandResult;
+use utils::SizeResult;
+use utils::convert_var_at;
+use utils::mov;
+use utils::put_load;
+use utils::source_at;
+use utils::var_size_at;
 use x86::enums::BinOp;
 use x86::enums::ConditionCode;
 use x86::enums::CtrlOp;
@@ -25,50 +21,85 @@ use x86::enums::Prefix;
 use x86::enums::Size;
 use x86::enums::StackOp;
 use x86::enums::StringOp;
+use x86::record::put_instruction;
 use x86::register::Register;
 ghost use mathlib.Core.Path.{_≡_};
-ghost use mathlib.Core.Bool.{cond};
-ghost use Rattle.ir.specs.Types.{isFloat};
+ghost use Prim.Native.Nat.{_+_, _≤_};
+ghost use lib.ListN.{length};
+ghost use Rattle.cells.specs.Cells.{cells, cellAt, write};
+ghost use Rattle.ir.specs.Types.{operandSize};
+ghost use Rattle.ir.specs.Function.{varAt, operandAt};
 ghost use Rattle.ir.specs.Answers.{numberSays};
-ghost use Rattle.x86.specs.Registers.{xmm, RAX};
+ghost use Rattle.x86.specs.Records.{listBytes};
 ghost use Rattle.codegen.specs.Context.{labelAt};
-ghost use Rattle.codegen.specs.Instructions.{move, generateReturn, operandKind, generateCopy, generateZero, generateJmpIfNot, generateLabel, generateJump};
+ghost use Rattle.codegen.specs.Instructions.{funcEpilogue, generateReturn, generateCopy, generateZero, generateLabel, generateJump, generateJmpIfNot};
 ghost use Rattle.utils.specs.Answers.{lent};
-ghost use Rattle.records.specs.Records.{recordsSay, encoded};
-ghost use Rattle.instructions.specs.Says.{kindedSays, varKind};
+ghost use Rattle.utils.specs.Makes.{Makes, Ready};
+ghost use Rattle.instructions.specs.Looks.{returnRegister, movedSays, lookCopy, copyOf, zeroedSays, lookZero, zeroOf, branchSays, lookBranch, branchOf};
 
-// The size in bytes of an operand's value, whether it is a float, and whether it is unsigned.
-pub struct Kind {
-    pub size: u64,
-    pub float: bool,
-    pub unsigned: bool,
+// A source, dest's slot and dest's size.
+pub struct Moved {
+    pub src: Operand,
+    pub var: Operand,
+    pub size: Size,
 }
 
-pub enum Kinded {
-    Is(Kind),
+pub enum MovedResult {
+    Is(Moved),
     Refused(u64),
 }
 
-pub fn binary(op: BinOp, dst: Operand, src: Operand, size: Size) -> Instruction
-    ensures { λ r. ⌜ r ≡ Instruction.Binary op dst src size ⌝ }
-{
-    Instruction::Binary { op, dst, src, size }
+// A condition's source and a label.
+pub struct Branch {
+    pub src: Operand,
+    pub label: u64,
 }
 
-pub fn mov(dst: Operand, src: Operand, size: Size) -> Instruction
-    ensures { λ r. ⌜ r ≡ move dst src size ⌝ }
+pub enum BranchResult {
+    Is(Branch),
+    Refused(u64),
+}
+
+// The bytes of a variable, and its slot.
+pub struct Zeroed {
+    pub bytes: u64,
+    pub var: Operand,
+}
+
+pub enum ZeroedResult {
+    Is(Zeroed),
+    Refused(u64),
+}
+
+// `mov rsp, rbp ; pop rbp ; ret`
+pub fn func_epilogue(out: &mut [u8], at: usize)
+    requires { ⌜ at + 192 ≤ length (now out) ⌝ }
+    ensures { λ _. ⌜ now (out .exit) ≡ write (now (out .entry)) at (listBytes funcEpilogue) ⌝ }
 {
-    Instruction::Binary {
-        op: BinOp::Mov,
-        dst,
-        src,
-        size,
-    }
+    let rbp = Operand::Reg(Register::RBP);
+    put_instruction(out, at, mov(Operand::Reg(Register::RSP), rbp, Size::NoSize));
+    put_instruction(
+        out,
+        at + 64,
+        Instruction::Stack {
+            op: StackOp::Pop,
+            value: rbp,
+            size: Size::NoSize,
+        },
+    );
+    put_instruction(
+        out,
+        at + 128,
+        Instruction::Ctrl {
+            op: CtrlOp::Ret,
+            target: Operand::NoOperand,
+        },
+    );
 }
 
 // The value comes back in XMM0 for a float return type, else in RAX.
 fn return_register(ret: Type) -> Register
-    ensures { λ r. ⌜ r ≡ cond (isFloat ret) (xmm 0) RAX ⌝ }
+    ensures { λ r. ⌜ r ≡ returnRegister ret ⌝ }
 {
     if ret.is_float() {
         Register::XMM0
@@ -77,137 +108,179 @@ fn return_register(ret: Type) -> Register
     }
 }
 
-// A load, then `mov rsp, rbp ; pop rbp ; ret`.
-pub fn generate_return(tables: &[u8], offsets: &[u64], ret: Type, op: IrOp) -> Records
-    ensures { λ r. ⌜ recordsSay r ≡ encoded (generateReturn (lent (now (tables .entry)) (now (offsets .entry))) ret op) ⌝ }
+fn operand_size(s: &[u8], k: usize) -> Size
+    requires { ⌜ k + 4 ≤ cells (now s) ⌝ }
+    ensures { λ r. ⌜ r ≡ operandSize (operandAt (now (s .entry)) k) ⌝ }
 {
-    let rsp = Operand::Reg(Register::RSP);
-    let rbp = Operand::Reg(Register::RBP);
-    match load_operand(tables, offsets, return_register(ret), op, Size::NoSize) {
-        Loaded::Is(load) => four(
-            load,
-            mov(rsp, rbp, Size::NoSize),
-            Instruction::Stack {
-                op: StackOp::Pop,
-                value: rbp,
-                size: Size::NoSize,
-            },
-            Instruction::Ctrl {
-                op: CtrlOp::Ret,
-                target: Operand::NoOperand,
-            },
-        ),
-        Loaded::Refused(n) => Records::Refused(n),
+    let op = operand_at(s, k);
+    op.size()
+}
+
+// A load, then the epilogue.
+pub fn generate_return(
+    tables: &[u8],
+    offsets: &[u64],
+    s: &[u8],
+    k: usize,
+    ret: Type,
+    out: &mut [u8],
+    at: usize,
+    write: bool,
+) -> CountResult
+    requires { ⌜ k + 13 ≤ cells (now s) ⌝ }
+    requires { ⌜ Ready write (generateReturn (lent (now tables) (now offsets)) ret (operandAt (now s) (k + 5))) at (length (now out)) ⌝ }
+    ensures { λ r. ⌜ Makes write (generateReturn (lent (now (tables .entry)) (now (offsets .entry))) ret (operandAt (now (s .entry)) (k + 5))) at (now (out .entry)) (now (out .exit)) r ⌝ }
+{
+    match source_at(tables, offsets, s, k + 5) {
+        OperandResult::Is(src) => {
+            if write {
+                put_load(out, at, return_register(ret), src, operand_size(s, k + 5));
+                func_epilogue(out, at + 64);
+            }
+            CountResult::Records(4)
+        }
+        OperandResult::Refused(n) => CountResult::Refused(n),
     }
 }
 
-// A constant's size, by its flag.
-fn constant_size(short: bool) -> u64
-    ensures { λ r. ⌜ r ≡ cond short 4 8 ⌝ }
-{
-    if short { 4 } else { 8 }
-}
+// ---- copies
 
-fn var_kind(v: VarId) -> Kinded
-    ensures { λ r. ⌜ kindedSays r ≡ varKind v ⌝ }
+fn look_copy(tables: &[u8], offsets: &[u64], s: &[u8], k: usize) -> MovedResult
+    requires { ⌜ k + 13 ≤ cells (now s) ⌝ }
+    ensures { λ r. ⌜ movedSays r ≡ lookCopy (lent (now (tables .entry)) (now (offsets .entry))) (varAt (now (s .entry)) (k + 2)) (operandAt (now (s .entry)) (k + 5)) ⌝ }
 {
-    let ty = v.ty;
-    match ty.size() {
-        Number::Is(size) => Kinded::Is(Kind {
-            size,
-            float: ty.is_float(),
-            unsigned: ty.is_unsigned(),
-        }),
-        Number::Refused(n) => Kinded::Refused(n),
+    let var = match convert_var_at(tables, offsets, s, k + 2) {
+        OperandResult::Is(var) => var,
+        OperandResult::Refused(n) => return MovedResult::Refused(n),
+    };
+    let size = match var_size_at(s, k + 2) {
+        SizeResult::Is(size) => size,
+        SizeResult::Refused(n) => return MovedResult::Refused(n),
+    };
+    match source_at(tables, offsets, s, k + 5) {
+        OperandResult::Is(src) => MovedResult::Is(Moved { src, var, size }),
+        OperandResult::Refused(n) => MovedResult::Refused(n),
     }
 }
 
-pub fn operand_kind(tables: &[u8], offsets: &[u64], op: IrOp) -> Kinded
-    ensures { λ r. ⌜ kindedSays r ≡ operandKind (lent (now (tables .entry)) (now (offsets .entry))) op ⌝ }
+fn put_copy(out: &mut [u8], at: usize, t: Moved)
+    requires { ⌜ at + 128 ≤ length (now out) ⌝ }
+    ensures { λ _. ⌜ now (out .exit) ≡ write (now (out .entry)) at (listBytes (copyOf t)) ⌝ }
 {
-    match op {
-        IrOp::Var(v) => var_kind(v),
-        IrOp::Int(_, short, unsigned) => Kinded::Is(Kind {
-            size: constant_size(short),
-            float: false,
-            unsigned,
-        }),
-        IrOp::Float(k) => match float_short(tables, offsets, k) {
-            Flag::Is(short) => Kinded::Is(Kind {
-                size: constant_size(short),
-                float: true,
-                unsigned: false,
-            }),
-            Flag::Refused(n) => Kinded::Refused(n),
-        },
-        IrOp::Bool(_) => Kinded::Is(Kind {
-            size: 1,
-            float: false,
-            unsigned: true,
-        }),
-        IrOp::Address(_) => Kinded::Is(Kind {
-            size: 8,
-            float: false,
-            unsigned: true,
-        }),
-        IrOp::DataAddress(_) => Kinded::Is(Kind {
-            size: 8,
-            float: false,
-            unsigned: true,
-        }),
-        IrOp::Null => Kinded::Is(Kind {
-            size: 8,
-            float: false,
-            unsigned: true,
-        }),
-    }
+    let src = t.src;
+    let var = t.var;
+    let size = t.size;
+    put_load(out, at, Register::RAX, src, size);
+    put_instruction(out, at + 64, mov(var, Operand::Reg(Register::RAX), size));
 }
 
 // `dest = src`, sized by dest.
-pub fn generate_copy(tables: &[u8], offsets: &[u64], dest: VarId, src: IrOp) -> Records
-    ensures { λ r. ⌜ recordsSay r ≡ encoded (generateCopy (lent (now (tables .entry)) (now (offsets .entry))) dest src) ⌝ }
+pub fn generate_copy(
+    tables: &[u8],
+    offsets: &[u64],
+    s: &[u8],
+    k: usize,
+    out: &mut [u8],
+    at: usize,
+    write: bool,
+) -> CountResult
+    requires { ⌜ k + 13 ≤ cells (now s) ⌝ }
+    requires { ⌜ Ready write (generateCopy (lent (now tables) (now offsets)) (varAt (now s) (k + 2)) (operandAt (now s) (k + 5))) at (length (now out)) ⌝ }
+    ensures { λ r. ⌜ Makes write (generateCopy (lent (now (tables .entry)) (now (offsets .entry))) (varAt (now (s .entry)) (k + 2)) (operandAt (now (s .entry)) (k + 5))) at (now (out .entry)) (now (out .exit)) r ⌝ }
 {
-    let var = match convert_var(tables, offsets, dest) {
-        Placed::Is(var) => var,
-        Placed::Refused(n) => return Records::Refused(n),
-    };
-    let size = match var_size(dest) {
-        Sized::Is(size) => size,
-        Sized::Refused(n) => return Records::Refused(n),
-    };
-    match load_operand(tables, offsets, Register::RAX, src, size) {
-        Loaded::Is(load) => two(load, mov(var, Operand::Reg(Register::RAX), size)),
-        Loaded::Refused(n) => Records::Refused(n),
+    match look_copy(tables, offsets, s, k) {
+        MovedResult::Is(t) => {
+            if write {
+                put_copy(out, at, t);
+            }
+            CountResult::Records(2)
+        }
+        MovedResult::Refused(n) => CountResult::Refused(n),
     }
 }
 
-// `lea rdi, [dest] ; mov rcx, size ; mov rax, 0 ; rep stosb`
-pub fn generate_zero(tables: &[u8], offsets: &[u64], dest: VarId) -> Records
-    ensures { λ r. ⌜ recordsSay r ≡ encoded (generateZero (lent (now (tables .entry)) (now (offsets .entry))) dest) ⌝ }
+// ---- zero
+
+fn look_zero(tables: &[u8], offsets: &[u64], s: &[u8], k: usize) -> ZeroedResult
+    requires { ⌜ k + 13 ≤ cells (now s) ⌝ }
+    ensures { λ r. ⌜ zeroedSays r ≡ lookZero (lent (now (tables .entry)) (now (offsets .entry))) (varAt (now (s .entry)) (k + 2)) ⌝ }
 {
-    let ty = dest.ty;
-    let n = match ty.size() {
+    let ty = type_at(s, k + 3);
+    let bytes = match ty.size() {
         Number::Is(n) => n,
-        Number::Refused(number) => return Records::Refused(number),
+        Number::Refused(n) => return ZeroedResult::Refused(n),
     };
-    match convert_var(tables, offsets, dest) {
-        Placed::Is(var) => four(
-            Instruction::Lea {
-                src: var,
-                dst: Register::RDI,
-                size: Size::NoSize,
-            },
-            mov(Operand::Reg(Register::RCX), Operand::Imm(n), Size::U64),
-            mov(Operand::Reg(Register::RAX), Operand::Imm(0), Size::U64),
-            Instruction::Prefix {
-                prefix: Prefix::Rep,
-                op: StringOp::Stos,
-                size: Size::U8,
-            },
-        ),
-        Placed::Refused(number) => Records::Refused(number),
+    match convert_var_at(tables, offsets, s, k + 2) {
+        OperandResult::Is(var) => ZeroedResult::Is(Zeroed { bytes, var }),
+        OperandResult::Refused(n) => ZeroedResult::Refused(n),
     }
 }
+
+fn put_zero(out: &mut [u8], at: usize, t: Zeroed)
+    requires { ⌜ at + 256 ≤ length (now out) ⌝ }
+    ensures { λ _. ⌜ now (out .exit) ≡ write (now (out .entry)) at (listBytes (zeroOf t)) ⌝ }
+{
+    let var = t.var;
+    put_instruction(
+        out,
+        at,
+        Instruction::Lea {
+            src: var,
+            dst: Register::RDI,
+            size: Size::NoSize,
+        },
+    );
+    put_instruction(
+        out,
+        at + 64,
+        mov(
+            Operand::Reg(Register::RCX),
+            Operand::Imm(t.bytes),
+            Size::U64,
+        ),
+    );
+    put_instruction(
+        out,
+        at + 128,
+        mov(Operand::Reg(Register::RAX), Operand::Imm(0), Size::U64),
+    );
+    put_instruction(
+        out,
+        at + 192,
+        Instruction::Prefix {
+            prefix: Prefix::Rep,
+            op: StringOp::Stos,
+            size: Size::U8,
+        },
+    );
+}
+
+// `lea rdi, [dest] ; mov rcx, size ; mov rax, 0 ; rep stosb`
+pub fn generate_zero(
+    tables: &[u8],
+    offsets: &[u64],
+    s: &[u8],
+    k: usize,
+    out: &mut [u8],
+    at: usize,
+    write: bool,
+) -> CountResult
+    requires { ⌜ k + 13 ≤ cells (now s) ⌝ }
+    requires { ⌜ Ready write (generateZero (lent (now tables) (now offsets)) (varAt (now s) (k + 2))) at (length (now out)) ⌝ }
+    ensures { λ r. ⌜ Makes write (generateZero (lent (now (tables .entry)) (now (offsets .entry))) (varAt (now (s .entry)) (k + 2))) at (now (out .entry)) (now (out .exit)) r ⌝ }
+{
+    match look_zero(tables, offsets, s, k) {
+        ZeroedResult::Is(t) => {
+            if write {
+                put_zero(out, at, t);
+            }
+            CountResult::Records(4)
+        }
+        ZeroedResult::Refused(n) => CountResult::Refused(n),
+    }
+}
+
+// ---- labels and jumps
 
 // `ctx.labels[id]`, of so many labels.
 fn label_at(labels: u64, id: u64) -> Number
@@ -220,55 +293,105 @@ fn label_at(labels: u64, id: u64) -> Number
     }
 }
 
-pub fn generate_label(labels: u64, id: u64) -> Records
-    ensures { λ r. ⌜ recordsSay r ≡ encoded (generateLabel labels id) ⌝ }
+pub fn generate_label(labels: u64, id: u64, out: &mut [u8], at: usize, write: bool) -> CountResult
+    requires { ⌜ Ready write (generateLabel labels id) at (length (now out)) ⌝ }
+    ensures { λ r. ⌜ Makes write (generateLabel labels id) at (now (out .entry)) (now (out .exit)) r ⌝ }
 {
     match label_at(labels, id) {
-        Number::Is(label) => one(Instruction::Label(label)),
-        Number::Refused(n) => Records::Refused(n),
+        Number::Is(label) => {
+            if write {
+                put_instruction(out, at, Instruction::Label(label));
+            }
+            CountResult::Records(1)
+        }
+        Number::Refused(n) => CountResult::Refused(n),
     }
 }
 
-pub fn generate_jump(labels: u64, id: u64) -> Records
-    ensures { λ r. ⌜ recordsSay r ≡ encoded (generateJump labels id) ⌝ }
+pub fn generate_jump(labels: u64, id: u64, out: &mut [u8], at: usize, write: bool) -> CountResult
+    requires { ⌜ Ready write (generateJump labels id) at (length (now out)) ⌝ }
+    ensures { λ r. ⌜ Makes write (generateJump labels id) at (now (out .entry)) (now (out .exit)) r ⌝ }
 {
     match label_at(labels, id) {
-        Number::Is(label) => one(Instruction::Ctrl {
-            op: CtrlOp::Jmp,
-            target: Operand::Label(label),
-        }),
-        Number::Refused(n) => Records::Refused(n),
+        Number::Is(label) => {
+            if write {
+                put_instruction(
+                    out,
+                    at,
+                    Instruction::Ctrl {
+                        op: CtrlOp::Jmp,
+                        target: Operand::Label(label),
+                    },
+                );
+            }
+            CountResult::Records(1)
+        }
+        Number::Refused(n) => CountResult::Refused(n),
     }
+}
+
+fn look_branch(tables: &[u8], offsets: &[u64], s: &[u8], k: usize, labels: u64) -> BranchResult
+    requires { ⌜ k + 13 ≤ cells (now s) ⌝ }
+    ensures { λ r. ⌜ branchSays r ≡ lookBranch (lent (now (tables .entry)) (now (offsets .entry))) labels (operandAt (now (s .entry)) (k + 5)) (cellAt (now (s .entry)) (k + 1)) ⌝ }
+{
+    let src = match source_at(tables, offsets, s, k + 5) {
+        OperandResult::Is(src) => src,
+        OperandResult::Refused(n) => return BranchResult::Refused(n),
+    };
+    match label_at(labels, cell_at(s, k + 1)) {
+        Number::Is(label) => BranchResult::Is(Branch { src, label }),
+        Number::Refused(n) => BranchResult::Refused(n),
+    }
+}
+
+fn put_branch(out: &mut [u8], at: usize, t: Branch)
+    requires { ⌜ at + 192 ≤ length (now out) ⌝ }
+    ensures { λ _. ⌜ now (out .exit) ≡ write (now (out .entry)) at (listBytes (branchOf t)) ⌝ }
+{
+    let src = t.src;
+    put_load(out, at, Register::RAX, src, Size::U8);
+    put_instruction(
+        out,
+        at + 64,
+        Instruction::Binary {
+            op: BinOp::Cmp,
+            dst: Operand::Reg(Register::RAX),
+            src: Operand::Imm(0),
+            size: Size::U8,
+        },
+    );
+    put_instruction(
+        out,
+        at + 128,
+        Instruction::Ctrl {
+            op: CtrlOp::JmpCC(ConditionCode::E),
+            target: Operand::Label(t.label),
+        },
+    );
 }
 
 // `mov al, cond ; cmp al, 0 ; je target`
 pub fn generate_jmp_if_not(
     tables: &[u8],
     offsets: &[u64],
+    s: &[u8],
+    k: usize,
     labels: u64,
-    condition: IrOp,
-    target: u64,
-) -> Records
-    ensures { λ r. ⌜ recordsSay r ≡ encoded (generateJmpIfNot (lent (now (tables .entry)) (now (offsets .entry))) labels condition target) ⌝ }
+    out: &mut [u8],
+    at: usize,
+    write: bool,
+) -> CountResult
+    requires { ⌜ k + 13 ≤ cells (now s) ⌝ }
+    requires { ⌜ Ready write (generateJmpIfNot (lent (now tables) (now offsets)) labels (operandAt (now s) (k + 5)) (cellAt (now s) (k + 1))) at (length (now out)) ⌝ }
+    ensures { λ r. ⌜ Makes write (generateJmpIfNot (lent (now (tables .entry)) (now (offsets .entry))) labels (operandAt (now (s .entry)) (k + 5)) (cellAt (now (s .entry)) (k + 1))) at (now (out .entry)) (now (out .exit)) r ⌝ }
 {
-    let load = match load_operand(tables, offsets, Register::RAX, condition, Size::U8) {
-        Loaded::Is(load) => load,
-        Loaded::Refused(n) => return Records::Refused(n),
-    };
-    match label_at(labels, target) {
-        Number::Is(label) => three(
-            load,
-            Instruction::Binary {
-                op: BinOp::Cmp,
-                dst: Operand::Reg(Register::RAX),
-                src: Operand::Imm(0),
-                size: Size::U8,
-            },
-            Instruction::Ctrl {
-                op: CtrlOp::JmpCC(ConditionCode::E),
-                target: Operand::Label(label),
-            },
-        ),
-        Number::Refused(n) => Records::Refused(n),
+    match look_branch(tables, offsets, s, k, labels) {
+        BranchResult::Is(t) => {
+            if write {
+                put_branch(out, at, t);
+            }
+            CountResult::Records(3)
+        }
+        BranchResult::Refused(n) => CountResult::Refused(n),
     }
 }

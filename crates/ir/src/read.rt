@@ -52,7 +52,7 @@ pub fn operand_at(s: &[u8], k: usize) -> Operand
     }
 }
 
-fn unary_op(number: u64) -> UnaryOp
+pub fn unary_op(number: u64) -> UnaryOp
     ensures { λ r. ⌜ r ≡ unaryOp number ⌝ }
 {
     match number {
@@ -62,7 +62,7 @@ fn unary_op(number: u64) -> UnaryOp
     }
 }
 
-fn dest_at(s: &[u8], k: usize) -> Dest
+pub fn dest_at(s: &[u8], k: usize) -> Dest
     requires { ⌜ k + 5 ≤ cells (now s) ⌝ }
     ensures { λ r. ⌜ r ≡ destAt (now (s .entry)) k ⌝ }
 {

@@ -1,8 +1,9 @@
--- The layout of tables and sheet: which cell is the first wrong one, in reading order (01, "Sheet and tables", "Limits", "The turned-away slip").
+-- Believed: refusals 1 to 3 rest on it. The layout of tables and sheet: which cell is the first wrong one, in reading order
+-- (01, "Sheet and tables", "Limits", "The turned-away slip").
 use Prim.Native.Nat.{ℕ, zero, suc, _+_, _*_, _-_, _^_}
 use mathlib.Core.Path.{_≡_}
 use mathlib.Core.List.{List}
-use mathlib.Core.Bool.{Bool, cond, _&&_, _||_}
+use mathlib.Core.Bool.{Bool, true, false, cond, _&&_, _||_}
 use lib.ListN.{length}
 use lib.Dec.{ltb, leb, eqb}
 use Rattle.cells.specs.Cells.{cellAt, largest, readCell, readWithin, bindCell}
@@ -20,6 +21,11 @@ bindLimited (Limited.Refused n k) rest = Checked.Refused n k
 abbrev pub bindChecked : Checked → (Cursor → Checked) → Checked
 bindChecked (Checked.Behind c) rest = rest c
 bindChecked (Checked.Refused n k) rest = Checked.Refused n k
+
+-- whether a check refuses nothing; no refusal rests on it
+abbrev pub accepts : Checked → Bool
+accepts (Checked.Behind c) = true
+accepts (Checked.Refused n k) = false
 
 abbrev pub cursor : ℕ → Cursor
 cursor k = record { at = k }

@@ -13,7 +13,7 @@ ghost use mathlib.Core.Path.{_≡_};
 ghost use Rattle.layout.specs.Layout.{operationMost, hasDest, hasLeft, destCheck, sideCheck, callCheck, bodyCheck, instrCheck};
 
 // The largest operation of a kind.
-pub fn operation_most(kind: u64) -> u64
+pub(crate) fn operation_most(kind: u64) -> u64
     ensures { λ r. ⌜ r ≡ operationMost kind ⌝ }
 {
     match kind {
@@ -26,7 +26,7 @@ pub fn operation_most(kind: u64) -> u64
 }
 
 // The first five kinds have a dest, and a call whose operation is 1.
-pub fn has_dest(kind: u64, operation: u64) -> bool
+pub(crate) fn has_dest(kind: u64, operation: u64) -> bool
     ensures { λ r. ⌜ r ≡ hasDest kind operation ⌝ }
 {
     if kind < 5 {
@@ -36,7 +36,7 @@ pub fn has_dest(kind: u64, operation: u64) -> bool
 }
 
 // One-operand kinds use left, and a Binary.
-pub fn has_left(kind: u64) -> bool
+pub(crate) fn has_left(kind: u64) -> bool
     ensures { λ r. ⌜ r ≡ hasLeft kind ⌝ }
 {
     if kind < 4 {

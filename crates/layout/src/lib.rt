@@ -1,5 +1,7 @@
 // The layout of tables and sheet: the first wrong cell in reading order, with refusal 1, 2 or 3.
+mod accepts;
 pub mod instrs;
+pub mod lists;
 pub mod parts;
 pub mod tables;
 

@@ -8,7 +8,7 @@ ghost use mathlib.Core.Path.{_≡_};
 ghost use Rattle.layout.specs.Layout.{endCheck, limited, countCheck, zerosCheck, fieldsCheck, typeCheck, returnCheck, varCheck, firstField, flagField, operandCheck, operandsCheck};
 
 // The largest number that is not negative.
-pub const LARGEST: u64 = 0x7fff_ffff_ffff_ffff;
+pub(crate) const LARGEST: u64 = 0x7fff_ffff_ffff_ffff;
 
 // The largest count of an array, and the largest total of the variables' sizes.
 pub const MOST_BYTES: u64 = 1048576;
@@ -45,7 +45,7 @@ pub fn limited(s: &[u8], c: Cursor, most: u64) -> Limited
 }
 
 // The count of a type: -1 for no array, or from 0 to its limit.
-pub fn count_check(s: &[u8], c: Cursor) -> Checked
+fn count_check(s: &[u8], c: Cursor) -> Checked
     ensures { λ r. ⌜ r ≡ countCheck (now (s .entry)) c ⌝ }
 {
     match c.cell(s) {
@@ -66,7 +66,7 @@ pub fn count_check(s: &[u8], c: Cursor) -> Checked
 }
 
 // `n` unused cells.
-pub fn zeros_check(s: &[u8], n: u64, c: Cursor) -> Checked
+pub(crate) fn zeros_check(s: &[u8], n: u64, c: Cursor) -> Checked
     ensures { λ r. ⌜ r ≡ zerosCheck (now (s .entry)) n c ⌝ }
 {
     let mut left = n;
@@ -130,7 +130,7 @@ pub fn return_check(s: &[u8], c: Cursor) -> Checked
 }
 
 // A variable is an id and its own type.
-pub fn var_check(s: &[u8], c: Cursor) -> Checked
+pub(crate) fn var_check(s: &[u8], c: Cursor) -> Checked
     ensures { λ r. ⌜ r ≡ varCheck (now (s .entry)) c ⌝ }
 {
     match c.within(s, 0, LARGEST) {
@@ -140,7 +140,7 @@ pub fn var_check(s: &[u8], c: Cursor) -> Checked
 }
 
 // The bounds of an operand's fields, by its position in Krc's `Operand`.
-pub fn first_field(kind: u64) -> u64
+pub(crate) fn first_field(kind: u64) -> u64
     ensures { λ r. ⌜ r ≡ firstField kind ⌝ }
 {
     match kind {
@@ -158,7 +158,7 @@ fn flag_field(kind: u64) -> u64
 }
 
 // An operand is four cells: 0 Var and 4 Address hold a variable.
-pub fn operand_check(s: &[u8], c: Cursor) -> Checked
+pub(crate) fn operand_check(s: &[u8], c: Cursor) -> Checked
     ensures { λ r. ⌜ r ≡ operandCheck (now (s .entry)) c ⌝ }
 {
     match c.within(s, 0, 6) {
@@ -174,7 +174,7 @@ pub fn operand_check(s: &[u8], c: Cursor) -> Checked
     }
 }
 
-pub fn operands_check(s: &[u8], n: u64, c: Cursor) -> Checked
+pub(crate) fn operands_check(s: &[u8], n: u64, c: Cursor) -> Checked
     ensures { λ r. ⌜ r ≡ operandsCheck (now (s .entry)) n c ⌝ }
 {
     let mut left = n;

@@ -1,1 +1,4 @@
+pub mod Lines
+pub mod Widths
 pub mod Listing
+pub mod Examples

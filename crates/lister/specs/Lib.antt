@@ -1,1 +1,2 @@
-pub mod Listed
+-- Listing is believed; its first line says so.
+pub mod Listing

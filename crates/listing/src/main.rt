@@ -1,4 +1,4 @@
-// The listing program: cells from standard input, text to standard output.
+// The listing program: cells from standard input, text to standard output. It only reads and writes; `lister::list` makes the text and is proved to.
 ghost use mathlib.Core.Path.{_≡_};
 ghost use lib.ListN.{length};
 
@@ -12,6 +12,8 @@ fn room() -> [u8; 65537]
 fn main() {
     let mut input = room();
     let mut records = io::large_buffer();
+    let mut text = io::large_buffer();
     let n = io::read_full(0, &mut input);
-    lister::list(1, &input[..n], &mut records);
+    let end = lister::list(&input[..n], &mut records, &mut text);
+    io::write_all(1, &text[..end]);
 }

@@ -9,12 +9,14 @@ fn room() -> [u8; 65537]
     [0; 65537]
 }
 
-// The text of what a descriptor holds.
+// The text for what a descriptor holds.
 fn list_all(fd: i32) {
     let mut input = room();
     let mut records = io::large_buffer();
+    let mut text = io::large_buffer();
     let n = io::read_full(fd, &mut input);
-    lister::list(1, &input[..n], &mut records);
+    let end = lister::list(&input[..n], &mut records, &mut text);
+    io::write_all(1, &text[..end]);
 }
 
 fn list_file(path: &[u8]) {

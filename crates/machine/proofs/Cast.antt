@@ -80,7 +80,7 @@ module _ (tables : Tables) (F : Function) (h : Ready tables F) (o : ℕ → Choi
   narrow x e p q =
       let s : State = R tables F o s₀ m in
       let t = enter tables F h o s₀ l e in
-      let (v, ex, g) = load-sound c (o m) 0 (convert F x) (sizeIn d) s in
+      let (v, ex, g) = load-sound c (o m) 0 (convert F x) (sizeIn d) s refl in
       finish tables F h o s₀ d 0 (value x σ % bound n) l e sc (then c o s₀ t ex (refl, refl, refl, refl, refl)) (omega arith) (omega arith) refl
       (ap (λ (n : ℕ). v % bound n) (sym (size-bytes (sc .type .width))) ∙ g ∙ ap (λ (n : ℕ). read n (convert F x) s) (size-bytes (sc .type .width))
       ∙ low-read n (width x) (convert F x) s q ∙ ap (λ (a : ℕ). a % bound n) (reads tables F h o s₀ l x p t))
@@ -109,7 +109,7 @@ module _ (tables : Tables) (F : Function) (h : Ready tables F) (o : ℕ → Choi
   wide (IrOp.Var v) e p g = wide-var v (p .type .width) e (value (IrOp.Var v) σ) (sees F (h .small) s₀ (l .inv) (IrOp.Var v) p) g
   wide (IrOp.Int v true unsigned) e p g =
       let t = enter tables F h o s₀ l e in
-      let (u, ex, q) = loads tables F h o s₀ l 4 0 (IrOp.Int v true unsigned) Size.U32 p refl refl t in
+      let (u, ex, q) = loads tables F h o s₀ l 4 0 refl (IrOp.Int v true unsigned) Size.U32 p refl refl t in
       let t₁ = then c o s₀ t ex (refl, refl, refl, refl, refl) in
       rw g
       (finish tables F h o s₀ d 0 (widen 4 n (v % bound 4)) l e sc (then c o s₀ t₁ refl (refl, refl, refl, refl, refl)) (omega arith) (omega arith) refl
@@ -118,7 +118,7 @@ module _ (tables : Tables) (F : Function) (h : Ready tables F) (o : ℕ → Choi
   wide (IrOp.Float j) e p g = absurd p
   wide (IrOp.Bool b) e p g =
       let t = enter tables F h o s₀ l e in
-      let (u, ex, q) = loads tables F h o s₀ l 1 0 (IrOp.Bool b) Size.U8 p refl refl t in
+      let (u, ex, q) = loads tables F h o s₀ l 1 0 refl (IrOp.Bool b) Size.U8 p refl refl t in
       let t₁ = then c o s₀ t ex (refl, refl, refl, refl, refl) in
       rw g
       (finish tables F h o s₀ d 0 (cond b 1 0) l e sc (then c o s₀ t₁ refl (refl, refl, refl, refl, refl)) (omega arith) (omega arith) refl

@@ -30,6 +30,7 @@ use Rattle.machine.proofs.Every.{all-at}
 use Rattle.machine.proofs.Kept.{code-is}
 use Rattle.machine.proofs.Plainness.{Meant, meant}
 use Rattle.machine.proofs.Inside.{params-inside, line-inside}
+use Rattle.machine.proofs.Computing.{Computing, code-computing}
 use Rattle.machine.proofs.Obeys.{obeys, obeys-run}
 use Rattle.machine.proofs.Sheet.{small, generated, plain-all, decodes}
 
@@ -142,6 +143,7 @@ demand2 tables sheet old is e =
       framed = framed (F .vars) total;
       frame = ap (λ (l : List Instruction). getD l 2 (Instruction.Label 0)) c ∙ code-frame T F a;
       slots = subst (Addressed T F) (sym c) (code-slots T F a);
+      computing = λ j h. all-at Computing is j noRecord (subst (All Computing) (sym c) (code-computing T F total a)) h;
       within = λ p.
           let m : Meant F = meant F (plain-all tables sheet (length old) is e p) in
           record {

@@ -1,9 +1,10 @@
 -- Division: the records of a Div go on with the quotient, or fault where the divisor is zero.
 use Prim.Native.Nat.{ℕ, suc, _+_, _*_, _/_, _%_, _<_}
 use mathlib.Core.Path.{_≡_, refl, sym, ap, ap₂, _∙_, subst}
-use mathlib.Core.Bool.{Bool, true, false, false≢true}
-use mathlib.Core.List.{List, _∷_}
-use lib.Dec.{eqb}
+use mathlib.Core.Bool.{Bool, true, false, cond, false≢true}
+use mathlib.Core.List.{List, _∷_, _++_}
+use lib.Dec.{eqb, ltb}
+use lib.ListN.{length, drop}
 use native.Mathlib.Nat.{mod-lt, mod-eq-of-lt, div-le-self, zero-mod}
 use native.Mathlib.Omega.{arith}
 use borrow.Author.Tests.{eqb-true, eqb-false, lt-leb}
@@ -12,24 +13,27 @@ use Rattle.ir.specs.declared.Operand.{Operand as IrOp}
 use Rattle.ir.specs.Types as types
 use Rattle.ir.specs.Types.{elementSize}
 use Rattle.ir.specs.Function.{Function, Tables, BinaryOp}
+use Rattle.x86.specs.declared.enums.Size.{Size}
 use Rattle.x86.specs.declared.enums.Operand.{Operand}
 use Rattle.x86.specs.declared.enums.BinOp.{BinOp}
 use Rattle.x86.specs.declared.enums.ComplexBinOp.{ComplexBinOp}
+use Rattle.x86.specs.declared.enums.ExtendOp.{ExtendOp}
 use Rattle.x86.specs.declared.enums.Instruction.{Instruction}
-use Rattle.x86.specs.Registers.{gpr, RCX, RDX}
-use Rattle.codegen.specs.Utils.{loadFrom}
+use Rattle.x86.specs.Registers.{gpr, RAX, RCX, RDX}
+use Rattle.codegen.specs.Utils.{isOneByte, isConstant, loadFrom}
 use Rattle.codegen.specs.Generation.{endsInRet}
 use Rattle.machine.specs.Word.{bound, bitXor}
 use Rattle.machine.specs.Machine as x86
-use Rattle.machine.specs.Machine.{Choice, State, exec, execBinary, execComplex, divideBy, dividend, quotientTo, undefinedFlags, next, withReg, withFlags, withStatus, merge, read}
+use Rattle.machine.specs.Machine.{Choice, State, exec, execBinary, execComplex, divideBy, dividend, quotientTo, undefinedFlags, next, withReg, withFlags, withStatus, merge, read, isDividing}
 use Rattle.machine.specs.Steps as steps
 use Rattle.machine.specs.Steps.{Values, width, value, put, binary}
+use Rattle.machine.specs.Simulation.{place, findDivision}
 use Rattle.machine.proofs.Numbers.{merge-low, xor-self}
 use Rattle.machine.proofs.Run.{savedOf, faulted-not, then, last}
-use Rattle.machine.proofs.Accepted.{code}
+use Rattle.machine.proofs.Accepted.{code, place-suc, records-at}
 use Rattle.machine.proofs.Plainness.{Width, one, four, eight, Scalar, PlainOperand}
 use Rattle.machine.proofs.Lowered as lowered
-use Rattle.machine.proofs.Lowered.{slot, sizeIn, load, two, divides}
+use Rattle.machine.proofs.Lowered.{slot, convert, sizeIn, load, general-load, two, divides}
 use Rattle.machine.proofs.Inv.{Inv, read-lt, zeros-above}
 use Rattle.machine.proofs.Moves.{R, Ready, Land, Moves, Here, Path-of, size-bytes, exec-binary, behind, enter, along, steady, finish}
 use Rattle.machine.proofs.Blocks.{loads, reads}
@@ -103,6 +107,17 @@ module _ (c : List Instruction) (u : Choice) (n a b : ℕ) (s : State) (w : Widt
 
 -- ---- the instruction
 
+-- a load is no division
+load-divides : (q : ℕ) (a : Operand) (z : Size) → ltb q 16 ≡ true → isDividing (loadFrom (gpr q) a z) ≡ false
+load-divides q a z h = ap isDividing (general-load q a z h) ∙ go (isOneByte z) (isConstant a)
+  where
+    go : (u v : Bool)
+        → isDividing (cond u (cond v (Instruction.Binary BinOp.Mov (Operand.Reg (gpr q)) a Size.U32) (Instruction.Extend ExtendOp.Movzx (gpr q) a Size.U8 Size.U64))
+        (Instruction.Binary BinOp.Mov (Operand.Reg (gpr q)) a z)) ≡ false
+    go true true = refl
+    go true false = refl
+    go false v = refl
+
 -- a quotient comes in RAX, a remainder in RDX
 pub data Divides : BinaryOp → ℕ → Type 0 where
   quotient : Divides BinaryOp.Div 0
@@ -129,31 +144,31 @@ module _ (tables : Tables) (F : Function) (h : Ready tables F) (o : ℕ → Choi
   c = code tables F
 
   -- a load of one byte clears what lies above it
-  byte-wide : (q : ℕ) (x : IrOp) {m′ : ℕ} {s : State} {r : List Instruction} → PlainOperand F x → width x ≡ 1
-      → Path-of tables F o s₀ m m′ s (load F (gpr q) x (elementSize 1) ∷ r)
-      → (v : ℕ) × (exec c (o m′) (load F (gpr q) x (elementSize 1)) s ≡ withReg q v (next s)) × (v ≡ value x σ)
+  byte-wide : (x : IrOp) {m′ : ℕ} {s : State} {r : List Instruction} → PlainOperand F x → width x ≡ 1
+      → Path-of tables F o s₀ m m′ s (load F RAX x (elementSize 1) ∷ r)
+      → (v : ℕ) × (exec c (o m′) (load F RAX x (elementSize 1)) s ≡ withReg 0 v (next s)) × (v ≡ value x σ)
   unfolding exec merge width loadFrom
-  byte-wide q (IrOp.Var v) {m′} {s} p e t =
-      (_, refl, zeros-above (s .regs q) _ (read-lt 1 (slot F v) s) ∙ ap (λ (n : ℕ). read n (slot F v) s) (sym e) ∙ reads tables F h o s₀ l (IrOp.Var v) p t)
-  byte-wide q (IrOp.Int v true unsigned) p e t = absurd (omega arith)
-  byte-wide q (IrOp.Int v false unsigned) p e t = absurd (omega arith)
-  byte-wide q (IrOp.Float j) p e t = absurd p
-  byte-wide q (IrOp.Bool true) p e t = (1, refl, refl)
-  byte-wide q (IrOp.Bool false) p e t = (0, refl, refl)
-  byte-wide q (IrOp.Address v) p e t = absurd p
-  byte-wide q (IrOp.DataAddress j) p e t = absurd p
-  byte-wide q IrOp.Null p e t = absurd (omega arith)
+  byte-wide (IrOp.Var v) {m′} {s} p e t =
+      (_, refl, zeros-above (s .regs 0) _ (read-lt 1 (slot F v) s) ∙ ap (λ (n : ℕ). read n (slot F v) s) (sym e) ∙ reads tables F h o s₀ l (IrOp.Var v) p t)
+  byte-wide (IrOp.Int v true unsigned) p e t = absurd (omega arith)
+  byte-wide (IrOp.Int v false unsigned) p e t = absurd (omega arith)
+  byte-wide (IrOp.Float j) p e t = absurd p
+  byte-wide (IrOp.Bool true) p e t = (1, refl, refl)
+  byte-wide (IrOp.Bool false) p e t = (0, refl, refl)
+  byte-wide (IrOp.Address v) p e t = absurd p
+  byte-wide (IrOp.DataAddress j) p e t = absurd p
+  byte-wide IrOp.Null p e t = absurd (omega arith)
 
-  loads-wide : {n : ℕ} (q : ℕ) (x : IrOp) {m′ : ℕ} {s : State} {r : List Instruction} → Width n → PlainOperand F x → width x ≡ n
-      → Path-of tables F o s₀ m m′ s (load F (gpr q) x (elementSize n) ∷ r)
-      → (v : ℕ) × (exec c (o m′) (load F (gpr q) x (elementSize n)) s ≡ withReg q v (next s)) × (v % bound n ≡ value x σ)
+  loads-wide : {n : ℕ} (x : IrOp) {m′ : ℕ} {s : State} {r : List Instruction} → Width n → PlainOperand F x → width x ≡ n
+      → Path-of tables F o s₀ m m′ s (load F RAX x (elementSize n) ∷ r)
+      → (v : ℕ) × (exec c (o m′) (load F RAX x (elementSize n)) s ≡ withReg 0 v (next s)) × (v % bound n ≡ value x σ)
       × (eqb n 1 ≡ true → v % bound 2 ≡ value x σ)
-  loads-wide q x one p e t =
-      let (v, ex, g) = byte-wide q x p e t in
+  loads-wide x one p e t =
+      let (v, ex, g) = byte-wide x p e t in
       let lt : value x σ < 256 = subst (λ (n : ℕ). value x σ < bound n) e (value-lt F x σ p) in
       (v, ex, ap (λ (a : ℕ). a % bound 1) g ∙ mod-eq-of-lt lt, λ z. ap (λ (a : ℕ). a % bound 2) g ∙ mod-eq-of-lt (omega arith))
-  loads-wide q x four p e t = let (v, ex, g) = loads tables F h o s₀ l 4 q x (elementSize 4) p e refl t in (v, ex, g, λ z. absurd (false≢true z))
-  loads-wide q x eight p e t = let (v, ex, g) = loads tables F h o s₀ l 8 q x (elementSize 8) p e refl t in (v, ex, g, λ z. absurd (false≢true z))
+  loads-wide x four p e t = let (v, ex, g) = loads tables F h o s₀ l 4 0 refl x (elementSize 4) p e refl t in (v, ex, g, λ z. absurd (false≢true z))
+  loads-wide x eight p e t = let (v, ex, g) = loads tables F h o s₀ l 8 0 refl x (elementSize 8) p e refl t in (v, ex, g, λ z. absurd (false≢true z))
 
   module _ {op : BinaryOp} {j : ℕ} (a : Divides op j) (d : VarId) (x y : IrOp) (e : Here tables F k (two F d x y (divides d) (gpr j))) (sc : Scalar F d)
       (px : PlainOperand F x) (py : PlainOperand F y) (wx : width x ≡ types.bytes (d .ty)) (wy : width y ≡ types.bytes (d .ty)) where
@@ -172,9 +187,9 @@ module _ (tables : Tables) (F : Function) (h : Ready tables F) (o : ℕ → Choi
     reach-div =
         let w : Width n = sc .type .width in
         let t = enter tables F h o s₀ l e in
-        let (v, q, vx, wide) = loads-wide 0 x w px wx t in
+        let (v, q, vx, wide) = loads-wide x w px wx t in
         let t₁ = then c o s₀ t q (refl, refl, refl, refl, refl) in
-        let (u, q₂, vy) = loads tables F h o s₀ l n 1 y (sizeIn d) py wy (size-bytes w) t₁ in
+        let (u, q₂, vy) = loads tables F h o s₀ l n 1 refl y (sizeIn d) py wy (size-bytes w) t₁ in
         let t₂ = then c o s₀ t₁ q₂ (refl, refl, refl, refl, refl) in
         let s₂ : State = withReg 1 u (next (withReg 0 v (next (R tables F o s₀ m)))) in
         let s₃ : State = execBinary BinOp.Xor (Operand.Reg RDX) (Operand.Reg RDX) n (o (suc (suc m))) s₂ in
@@ -196,6 +211,13 @@ module _ (tables : Tables) (F : Function) (h : Ready tables F) (o : ℕ → Choi
         (f .status, f .mem, f .saved, refl, ap suc (f .pos)) in
         finish tables F h o s₀ d j _ l e sc t₄ (omega arith) (omega arith) refl (result i r a ne f signed dest)
 
+    -- the Div is the fourth record
+    division-at : findDivision (drop (place tables F k) c) ≡ 3
+    unfolding findDivision
+    division-at =
+        ap findDivision (records-at tables F k (e .at) ∙ ap (λ (b : List Instruction). b ++ behind tables F (e .rest)) (e .is))
+        ∙ rw (load-divides 0 (convert F x) (sizeIn d) refl, load-divides 1 (convert F y) (sizeIn d) refl)
+
     pub faults : eqb (value y σ) 0 ≡ true → Ends tables F o s₀ 5 m (record { next = k; vals = σ; status = steps.faulted })
     faults b =
         let (s, t, da, db) = reach-div in
@@ -207,7 +229,15 @@ module _ (tables : Tables) (F : Function) (h : Ready tables F) (o : ℕ → Choi
           later = omega arith;
           few = omega arith;
           calm = steady tables F h o s₀ l t;
-          agrees = record { slots = rw q (inv .slots); stands = rw q (refl, omega (arith, t .count, l .at)) };
+          agrees =
+              record {
+                slots = rw q (inv .slots);
+                stands = rw q (
+                  refl,
+                  omega (arith, t .count, l .at, division-at),
+                  omega (arith, t .count, l .at, place-suc tables F k (e .at), ap length (e .is)),
+                );
+              };
           kept = rw q (inv .kept);
           over = rw q (faulted-not refl);
         }

@@ -148,7 +148,7 @@ module _ (tables : Tables) (F : Function) (h : Ready tables F) (o : ℕ → Choi
       → Ends tables F o s₀ 5 m (record { next = k; vals = σ; status = steps.returned (width x) (value x σ) })
   give {m} {k} x l e p =
       let t = enter tables F h o s₀ l e in
-      let (v, q, vx) = loads tables F h o s₀ l (width x) 0 x (operandSize x) p refl (own-bytes F x p) t in
+      let (v, q, vx) = loads tables F h o s₀ l (width x) 0 refl x (operandSize x) p refl (own-bytes F x p) t in
       leave 5 k l (then c o s₀ t q (refl, refl, refl, refl, refl)) (omega arith) vx
       (omega (arith, l .at, place-suc tables F k (e .at), ap length (e .is))
       ∙ sym (ap (λ (b : Bool). cond b (place tables F (suc k)) (length c)) (lt-ltb k (length (F .body)) (drop-less k (F .body) (e .at)))))

@@ -38,6 +38,7 @@ use Rattle.codegen.specs.Arithmetic.{simpleOperation, floatOperation, twoLoads,
 use Rattle.codegen.specs.Generation.{generateInstr}
 use Rattle.machine.specs.Word.{W}
 use Rattle.machine.specs.Encodings.{bytes as span}
+use Rattle.machine.specs.Machine.{isFree}
 use Rattle.machine.specs.Plain.{every}
 use Rattle.machine.specs.Frames.{slotOf}
 use Rattle.machine.specs.Calls.{Taking, Naming, convertedBytes, passedBytes, Whole, Takes, comparedBytes, binaryBytes, castBytes, Casts, Passes, PassesOne, Result, Names, zeroing}
@@ -46,7 +47,7 @@ use Rattle.machine.proofs.Tests.{both, every-at, each-or}
 use Rattle.machine.proofs.Frame.{contextWith, At, var-at}
 use Rattle.codegen.proofs.Results.{Yields, yields, refuses, any, bind, weaken, choose, guard}
 use Rattle.machine.proofs.Run.{All, all-append, all-map}
-use Rattle.machine.proofs.Sound.{Sound, SoundOperand, Given, Usable, free, tame, isCall, either, slot-sound, into-register, into-slot, extends, load-sound}
+use Rattle.machine.proofs.Sound.{Sound, SoundOperand, Given, Usable, tame, isCall, either, slot-sound, into-register, into-slot, extends, load-sound}
 
 -- ---- numbers of an instruction that a record takes over: below 2 ^ 64, as those of a sheet are
 
@@ -156,20 +157,20 @@ Made vars N Q Instr.Comment args b = All (Sound vars N Q) b
 -- ---- a Call's loads are sound
 
 lea-sound : (vars : List IrType) (N : Naming) (Q : Type 0) (r : Register) (k : ℕ) → Usable r → (Q → k < W) → Sound vars N Q (Instruction.Lea (ripString k) r Size.NoSize)
-lea-sound vars N Q r k u h = record { kept = rw (u .0); slots = tt; fits = λ q. (u .1, h q); plain = λ l. refl; uncalled = refl }
+lea-sound vars N Q r k u h = record { kept = u .0; slots = tt; fits = λ q. (u .1, h q); plain = λ l. refl; uncalled = refl }
 
 bit-lt : (b : Bool) → cond b 1 0 < W
 bit-lt true = lit< tt
 bit-lt false = lit< tt
 
 abbrev isUsable : Register → Bool
-isUsable r = free (number r) && ltb (r .index) 16
+isUsable r = isFree (number r) && ltb (number r) 32
 
 usable : (rs : List Register) (k : ℕ) → every isUsable rs ≡ true → k < length rs → Usable (getD rs k RAX)
 usable rs k e h =
     let r : Register = getD rs k RAX in
-    let t = both (free (number r)) (ltb (r .index) 16) (every-at isUsable rs k RAX e h) in
-    (t .0, ltb-true (r .index) 16 (t .1))
+    let t = both (isFree (number r)) (ltb (number r) 32) (every-at isUsable rs k RAX e h) in
+    (t .0, ltb-true (number r) 32 (t .1))
 
 -- the bytes of the move of an argument
 element-passed : (code : ℕ) → span (elementSize (elementWidth code)) ≡ cond (eqb (elementWidth code) 0) 8 (elementWidth code)
@@ -753,7 +754,7 @@ module _ (tables : Tables) (vars : List IrType) (N : Naming) (Q : Type 0) where
       let o = slot-sound vars (N false) Q 0 d (given-less (N false) d (omega arith) g) (p .0) in
       yields (
         record {
-          kept = rw (p .1);
+          kept = refl;
           slots = rw (p .1) (o .0);
           fits = λ q. (lit< tt, rw (p .1) (o .1 q));
           plain = λ l. refl;

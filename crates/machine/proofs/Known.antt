@@ -35,7 +35,7 @@ use Rattle.machine.specs.Simulation.{recordsOfLines}
 use Rattle.machine.proofs.Run.{Known, Fit, all-append}
 use Rattle.machine.proofs.Accepted.{Accepted, records, front, whole, tail, code}
 use Rattle.machine.proofs.Plainness.{Width, one, four, eight, Scalar, FourBytes, Near, Long, PlainOperand, PlainBinary, PlainInstr, Meant}
-use Rattle.machine.proofs.Lowered.{slot, convert, sizeIn, load, store, simple, compares, two, divides, multiplies, shifts, rightOf, lowerBinary, widening, copies, lower, lowered, operand-width, eight-most}
+use Rattle.machine.proofs.Lowered.{slot, convert, sizeIn, load, general-load, store, simple, compares, two, divides, multiplies, shifts, rightOf, lowerBinary, widening, copies, lower, lowered, operand-width, eight-most}
 use Rattle.machine.proofs.Prologue.{near-slot, sized, front-known}
 use Rattle.machine.proofs.Lines.{front-framed}
 use Rattle.machine.proofs.Slots.{frame-le}
@@ -52,17 +52,17 @@ Loadable n (Operand.Label l) = ⊥
 Loadable n (Operand.MemoryAddress a) = isPlaced (a .base) (a .disp) ≡ true
 
 load-known : {n : ℕ} (k : ℕ) (a : Operand) → ltb k 16 ≡ true → Width n → Loadable n a → known (loadFrom (gpr k) a (elementSize n)) ≡ true
-unfolding known loadFrom
+unfolding known
 load-known k Operand.NoOperand g w h = absurd h
 load-known k (Operand.Reg r) g w h = absurd h
-load-known k (Operand.Imm v) g one h = rw g (lt-ltb _ _ (h (omega arith)))
-load-known k (Operand.Imm v) g four h = rw g (lt-ltb _ _ (h (omega arith)))
-load-known k (Operand.Imm v) g eight h = rw g
+load-known k (Operand.Imm v) g one h = rw (general-load k _ _ g, g) (lt-ltb _ _ (h (omega arith)))
+load-known k (Operand.Imm v) g four h = rw (general-load k _ _ g, g) (lt-ltb _ _ (h (omega arith)))
+load-known k (Operand.Imm v) g eight h = rw (general-load k _ _ g, g)
 load-known k (Operand.Sym j) g w h = absurd h
 load-known k (Operand.Label l) g w h = absurd h
-load-known k (Operand.MemoryAddress a) g one h = rw (g, h)
-load-known k (Operand.MemoryAddress a) g four h = rw (g, h)
-load-known k (Operand.MemoryAddress a) g eight h = rw (g, h)
+load-known k (Operand.MemoryAddress a) g one h = rw (general-load k _ _ g, g, h)
+load-known k (Operand.MemoryAddress a) g four h = rw (general-load k _ _ g, g, h)
+load-known k (Operand.MemoryAddress a) g eight h = rw (general-load k _ _ g, g, h)
 
 -- ---- records that compute
 

@@ -28,6 +28,8 @@ pub mod Every
 pub mod Fits
 pub mod Sheet
 pub mod Demand3
+pub mod Premises
+pub mod Forms
 pub mod Flow
 pub mod Arguments
 pub mod Entered
@@ -36,5 +38,6 @@ pub mod Callers
 pub mod Received
 pub mod Obeys
 pub mod Inside
+pub mod Computing
 pub mod Demand2
 pub mod SignedOrder

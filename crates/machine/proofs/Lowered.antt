@@ -3,10 +3,10 @@ use Prim.Native.Nat.{ℕ, _<_, _≤_}
 use mathlib.Core.Path.{_≡_, refl, ap, _∙_}
 use mathlib.Core.Bool.{Bool, true, false, cond, not, _&&_, _||_}
 use mathlib.Core.List.{List, [], _∷_, _++_}
-use lib.Dec.{eqb, leb}
+use lib.Dec.{eqb, leb, ltb}
 use lib.ListN.{length, drop}
 use native.Mathlib.Omega.{arith}
-use borrow.Author.Tests.{leb-false}
+use borrow.Author.Tests.{leb-false, ltb-true, lt-leb}
 use Rattle.ir.specs.declared.«Type».{«Type» as IrType}
 use Rattle.ir.specs.declared.VarId.{VarId}
 use Rattle.ir.specs.declared.Operand.{Operand as IrOp}
@@ -26,9 +26,9 @@ use Rattle.x86.specs.declared.enums.ConditionCode.{ConditionCode}
 use Rattle.x86.specs.declared.enums.StringOp.{StringOp}
 use Rattle.x86.specs.declared.enums.Prefix.{Prefix}
 use Rattle.x86.specs.declared.enums.Instruction.{Instruction}
-use Rattle.x86.specs.Registers.{RAX, RCX, RDX, RDI, rbpPlus}
+use Rattle.x86.specs.Registers.{gpr, RAX, RCX, RDX, RDI, rbpPlus}
 use Rattle.codegen.specs.Context.{Context}
-use Rattle.codegen.specs.Utils.{sizeFrom, varSize, convertVar, convertOperand, sizeOr, loadFrom, loadValue, loadOperand}
+use Rattle.codegen.specs.Utils.{sizeFrom, varSize, convertVar, convertOperand, sizeOr, isOneByte, isConstant, loadFrom, loadValue, loadOperand}
 use Rattle.codegen.specs.Instructions.{move, kind, operandKind, source, funcEpilogue, generateReturn, generateCopy, castOperand, widened, castBetween, generateCast, generateZero, generateJmpIfNot, generateJump}
 use Rattle.codegen.specs.Arithmetic.{simpleOperation, twoLoads, dividing, division, multiplication, shift, unsignedCode, compared, comparison, integerBinary, generateBinary, unaryRecords, generateUnary}
 use Rattle.codegen.specs.Generation.{generateInstr}
@@ -61,6 +61,17 @@ sizeIn d = elementSize (bytes (d .ty))
 
 abbrev pub load : Function → Register → IrOp → Size → Instruction
 load F r x z = loadFrom r (convert F x) z
+
+-- .. into a general register
+abbrev pub generalLoad : ℕ → Operand → Size → Instruction
+generalLoad k a z =
+    cond (isOneByte z)
+    (cond (isConstant a) (Instruction.Binary BinOp.Mov (Operand.Reg (gpr k)) a Size.U32) (Instruction.Extend ExtendOp.Movzx (gpr k) a Size.U8 Size.U64))
+    (Instruction.Binary BinOp.Mov (Operand.Reg (gpr k)) a z)
+
+pub general-load : (k : ℕ) (a : Operand) (z : Size) → ltb k 16 ≡ true → loadFrom (gpr k) a z ≡ generalLoad k a z
+unfolding loadFrom
+general-load k a z h = rw (lt-leb 16 k (ltb-true k 16 h))
 
 abbrev pub store : Function → VarId → Register → Instruction
 store F d r = move (slot F d) (Operand.Reg r) (sizeIn d)

@@ -17,33 +17,13 @@ use Rattle.x86.specs.declared.enums.ExtendOp.{ExtendOp}
 use Rattle.x86.specs.declared.enums.ConvOp.{ConvOp}
 use Rattle.x86.specs.declared.enums.Instruction.{Instruction}
 use Rattle.x86.specs.Registers.{number}
-use Rattle.machine.specs.Word.{bound, sign, update}
-use Rattle.machine.specs.Encodings.{known, bytes, isGeneral, isMemory, isControl, isLabelOperand}
-use Rattle.machine.specs.Machine.{Flags, Choice, State, faulted, next, withReg, withFlags, withStatus, write, withLow, withXmm, quotientTo, dividend, divideBy, divideSigned, magnitude, differ, undefinedFlags, shifted, shiftCount, shiftFlags, lastOut, shiftOver, resultFlags, read, holds, jump, execBinary, execComplex, execUnary, execConvert, execExtend, execLea, execStack, execCtrl, exec, find}
+use Rattle.machine.specs.Word.{bound, sign, update, magnitude, differ}
+use Rattle.machine.specs.Encodings.{known, bytes, isGeneral, isMemory, isBinary, isControl, isLabelOperand}
+use Rattle.machine.specs.Machine.{Flags, Choice, State, faulted, next, withReg, withFlags, withStatus, write, withLow, withXmm, quotientTo, dividend, divideBy, divideSigned, undefinedFlags, shifted, shiftCount, shiftFlags, lastOut, shiftOver, resultFlags, read, holds, jump, execBinary, execComplex, execUnary, execConvert, execExtend, execLea, execStack, execCtrl, exec, find, isFree, isFreeOperand}
 use Rattle.machine.proofs.Tests.{both}
-use Rattle.machine.proofs.Sound.{free, freeIn, isPlace, tame, tameCtrl}
+use Rattle.machine.proofs.Sound.{tame, tameCtrl}
 
 -- the run goes on behind the record, or at a label
-abbrev pub goesCtrl : CtrlOp → Operand → Bool
-goesCtrl CtrlOp.Jmp t = isLabelOperand t
-goesCtrl CtrlOp.Call t = true
-goesCtrl CtrlOp.Ret t = true
-goesCtrl (CtrlOp.JmpCC k) t = isLabelOperand t
-
-abbrev pub goes : Instruction → Bool
-goes (Instruction.Binary op dst src size) = true
-goes (Instruction.ComplexBinary op dst src size) = true
-goes (Instruction.Convert op dst src size) = true
-goes (Instruction.Ctrl op target) = goesCtrl op target
-goes (Instruction.Extend op dst src srcSize size) = true
-goes (Instruction.Lea src dst size) = isPlace src
-goes (Instruction.Label n) = true
-goes (Instruction.Prefix prefix op size) = true
-goes (Instruction.SetCC op dst) = true
-goes (Instruction.Shift op dst src size) = true
-goes (Instruction.Stack op value size) = true
-goes (Instruction.Unary op dst size) = true
-
 abbrev pub Leads : List Instruction → State → State → Type 0
 Leads c s s′ = (s′ .pos ≡ suc (s .pos)) ⊎ ((l : ℕ) × (s′ .pos ≡ find l c))
 
@@ -57,14 +37,14 @@ pub record Runs (c : List Instruction) (keep : Bool) (s s′ : State) : Type 0 w
 -- ---- registers
 
 -- a free register is neither of the two
-update-sp : (f : ℕ → ℕ) (r v : ℕ) → free r ≡ true → update f r v 4 ≡ f 4
+update-sp : (f : ℕ → ℕ) (r v : ℕ) → isFree r ≡ true → update f r v 4 ≡ f 4
 update-sp f r v h = go (eqb 4 r) (eqb 5 r) h
   where
     go : (a b : Bool) → not (a || b) ≡ true → cond a v (f 4) ≡ f 4
     go true b e = absurd (false≢true e)
     go false b e = refl
 
-update-bp : (f : ℕ → ℕ) (r v : ℕ) → free r ≡ true → update f r v 5 ≡ f 5
+update-bp : (f : ℕ → ℕ) (r v : ℕ) → isFree r ≡ true → update f r v 5 ≡ f 5
 update-bp f r v h = go (eqb 4 r) (eqb 5 r) h
   where
     go : (a b : Bool) → not (a || b) ≡ true → cond b v (f 5) ≡ f 5
@@ -82,13 +62,13 @@ shift-df u o n a k f = go (eqb k 0)
 
 module _ (c : List Instruction) where
   -- a record that goes on and writes a register, or none that matters
-  into : (r v : ℕ) (f : Flags) (s : State) → f .df ≡ s .flags .df → Runs c (free r) s (next (withFlags f (withReg r v s)))
+  into : (r v : ℕ) (f : Flags) (s : State) → f .df ≡ s .flags .df → Runs c (isFree r) s (next (withFlags f (withReg r v s)))
   into r v f s e = record { sp = update-sp (s .regs) r v; bp = update-bp (s .regs) r v; to = inl refl; df = e }
 
   still : (b : Bool) {s s′ : State} → s′ .regs 4 ≡ s .regs 4 → s′ .regs 5 ≡ s .regs 5 → s′ .pos ≡ suc (s .pos) → s′ .flags .df ≡ s .flags .df → Runs c b s s′
   still b p q e f = record { sp = λ h. p; bp = λ h. q; to = inl e; df = f }
 
-  writes : (n : ℕ) (d : Operand) (v : ℕ) (f : Flags) (s : State) → f .df ≡ s .flags .df → Runs c (freeIn d) s (next (withFlags f (write n d v s)))
+  writes : (n : ℕ) (d : Operand) (v : ℕ) (f : Flags) (s : State) → f .df ≡ s .flags .df → Runs c (isFreeOperand d) s (next (withFlags f (write n d v s)))
   writes n Operand.NoOperand v f s e = still true refl refl refl e
   writes n (Operand.Reg r) v f s e = into (number r) _ f s e
   writes n (Operand.Imm k) v f s e = still true refl refl refl e
@@ -96,7 +76,7 @@ module _ (c : List Instruction) where
   writes n (Operand.Label l) v f s e = still true refl refl refl e
   writes n (Operand.MemoryAddress a) v f s e = still true refl refl refl e
 
-  moves : (n : ℕ) (d : Operand) (v : ℕ) (s : State) → Runs c (freeIn d) s (next (write n d v s))
+  moves : (n : ℕ) (d : Operand) (v : ℕ) (s : State) → Runs c (isFreeOperand d) s (next (write n d v s))
   moves n Operand.NoOperand v s = still true refl refl refl refl
   moves n (Operand.Reg r) v s = into (number r) _ (s .flags) s refl
   moves n (Operand.Imm k) v s = still true refl refl refl refl
@@ -104,7 +84,7 @@ module _ (c : List Instruction) where
   moves n (Operand.Label l) v s = still true refl refl refl refl
   moves n (Operand.MemoryAddress a) v s = still true refl refl refl refl
 
-  lows : (n : ℕ) (d : Operand) (v : ℕ) (s : State) → Runs c (freeIn d) s (next (withLow n d v s))
+  lows : (n : ℕ) (d : Operand) (v : ℕ) (s : State) → Runs c (isFreeOperand d) s (next (withLow n d v s))
   lows n Operand.NoOperand v s = still true refl refl refl refl
   lows n (Operand.Reg r) v s = into (number r) _ (s .flags) s refl
   lows n (Operand.Imm k) v s = still true refl refl refl refl
@@ -112,7 +92,7 @@ module _ (c : List Instruction) where
   lows n (Operand.Label l) v s = still true refl refl refl refl
   lows n (Operand.MemoryAddress a) v s = still true refl refl refl refl
 
-  floats : (d : Operand) (v : ℕ) (s : State) → Runs c (freeIn d) s (next (withXmm d v s))
+  floats : (d : Operand) (v : ℕ) (s : State) → Runs c (isFreeOperand d) s (next (withXmm d v s))
   floats Operand.NoOperand v s = still true refl refl refl refl
   floats (Operand.Reg r) v s = into (number r) _ (s .flags) s refl
   floats (Operand.Imm k) v s = still true refl refl refl refl
@@ -122,21 +102,26 @@ module _ (c : List Instruction) where
 
   -- ---- by kind
 
-  binaries : (op : BinOp) (d x : Operand) (n : ℕ) (u : Choice) (s : State) → Runs c (freeIn d) s (execBinary op d x n u s)
-  binaries BinOp.Mov d x n u s = moves n d _ s
-  binaries BinOp.Add d x n u s = writes n d _ _ s refl
-  binaries BinOp.Sub d x n u s = writes n d _ _ s refl
-  binaries BinOp.And d x n u s = writes n d _ _ s refl
-  binaries BinOp.Or d x n u s = writes n d _ _ s refl
-  binaries BinOp.Xor d x n u s = writes n d _ _ s refl
-  binaries BinOp.Cmp d x n u s = still (freeIn d) refl refl refl refl
-  binaries BinOp.LoadF d x n u s = floats d _ s
-  binaries BinOp.StoreF d x n u s = moves n d _ s
-  binaries BinOp.AddF d x n u s = lows n d _ s
-  binaries BinOp.SubF d x n u s = lows n d _ s
-  binaries BinOp.MulF d x n u s = lows n d _ s
-  binaries BinOp.DivF d x n u s = lows n d _ s
-  binaries BinOp.UcomiF d x n u s = still (freeIn d) refl refl refl refl
+  binaries : (op : BinOp) (d x : Operand) (n : ℕ) (u : Choice) (s : State) → isBinary op d x n ≡ true → Runs c (isFreeOperand d) s (execBinary op d x n u s)
+  binaries BinOp.Mov d x n u s h = moves n d _ s
+  binaries BinOp.Xchg d x n u s h = absurd (false≢true h)
+  binaries BinOp.Add d x n u s h = writes n d _ _ s refl
+  binaries BinOp.Sub d x n u s h = writes n d _ _ s refl
+  binaries BinOp.Adc d x n u s h = absurd (false≢true h)
+  binaries BinOp.Sbb d x n u s h = absurd (false≢true h)
+  binaries BinOp.And d x n u s h = writes n d _ _ s refl
+  binaries BinOp.Or d x n u s h = writes n d _ _ s refl
+  binaries BinOp.Xor d x n u s h = writes n d _ _ s refl
+  binaries BinOp.Cmp d x n u s h = still (isFreeOperand d) refl refl refl refl
+  binaries BinOp.Test d x n u s h = absurd (false≢true h)
+  binaries BinOp.LoadF d x n u s h = floats d _ s
+  binaries BinOp.StoreF d x n u s h = moves n d _ s
+  binaries BinOp.AddF d x n u s h = lows n d _ s
+  binaries BinOp.SubF d x n u s h = lows n d _ s
+  binaries BinOp.MulF d x n u s h = lows n d _ s
+  binaries BinOp.DivF d x n u s h = lows n d _ s
+  binaries BinOp.ComiF d x n u s h = absurd (false≢true h)
+  binaries BinOp.UcomiF d x n u s h = still (isFreeOperand d) refl refl refl refl
 
   -- a division writes RAX and RDX, or faults
   quotients : (b : Bool) (n q r : ℕ) (f : Flags) (s : State) → f .df ≡ s .flags .df → Runs c b s (next (withFlags f (quotientTo n q r s)))
@@ -159,18 +144,18 @@ module _ (c : List Instruction) where
       let down : Bool = differ (sign (n + n) a) (sign n d) in
       or-faults (eqb d 0 || ltb (cond down (bound n / 2) (bound n / 2 - 1)) q) b (quotients b n _ _ (undefinedFlags u (s .flags)) s refl)
 
-  complexes : (op : ComplexBinOp) (d x : Operand) (n : ℕ) (u : Choice) (s : State) → Runs c (freeIn d) s (execComplex op d x n u s)
-  complexes ComplexBinOp.Div d x n u s = divisions (freeIn d) (u .flags) n (dividend n s) (read n x s) s
+  complexes : (op : ComplexBinOp) (d x : Operand) (n : ℕ) (u : Choice) (s : State) → Runs c (isFreeOperand d) s (execComplex op d x n u s)
+  complexes ComplexBinOp.Div d x n u s = divisions (isFreeOperand d) (u .flags) n (dividend n s) (read n x s) s
   complexes ComplexBinOp.Imul d x n u s = writes n d _ _ s refl
-  complexes ComplexBinOp.Idiv d x n u s = signed-divisions (freeIn d) (u .flags) n (dividend n s) (read n x s) s
+  complexes ComplexBinOp.Idiv d x n u s = signed-divisions (isFreeOperand d) (u .flags) n (dividend n s) (read n x s) s
 
-  unaries : (op : UnaryOp) (d : Operand) (n : ℕ) (s : State) → Runs c (freeIn d) s (execUnary op d n s)
+  unaries : (op : UnaryOp) (d : Operand) (n : ℕ) (s : State) → Runs c (isFreeOperand d) s (execUnary op d n s)
   unaries UnaryOp.Neg d n s = writes n d _ _ s refl
   unaries UnaryOp.Not d n s = moves n d _ s
-  unaries UnaryOp.Cdq d n s = still (freeIn d) refl refl refl refl
-  unaries UnaryOp.Cqo d n s = still (freeIn d) refl refl refl refl
+  unaries UnaryOp.Cdq d n s = still (isFreeOperand d) refl refl refl refl
+  unaries UnaryOp.Cqo d n s = still (isFreeOperand d) refl refl refl refl
 
-  conversions : (op : ConvOp) (r : Register) (n : ℕ) (u : Choice) (s : State) → Runs c (free (number r)) s (execConvert op r n u s)
+  conversions : (op : ConvOp) (r : Register) (n : ℕ) (u : Choice) (s : State) → Runs c (isFree (number r)) s (execConvert op r n u s)
   conversions ConvOp.Cvtsd2ss r n u s = lows 4 (Operand.Reg r) _ s
   conversions ConvOp.Cvtsi2sd r n u s = lows 8 (Operand.Reg r) _ s
   conversions ConvOp.Cvtsi2ss r n u s = lows 4 (Operand.Reg r) _ s
@@ -178,19 +163,17 @@ module _ (c : List Instruction) where
   conversions ConvOp.Cvttsd2si r n u s = moves n (Operand.Reg r) _ s
   conversions ConvOp.Cvttss2si r n u s = moves n (Operand.Reg r) _ s
 
-  extensions : (op : ExtendOp) (r : Register) (x : Operand) (z n : ℕ) (s : State) → Runs c (free (number r)) s (execExtend op r x z n s)
+  extensions : (op : ExtendOp) (r : Register) (x : Operand) (z n : ℕ) (s : State) → Runs c (isFree (number r)) s (execExtend op r x z n s)
   extensions ExtendOp.Movzx r x z n s = moves n (Operand.Reg r) _ s
   extensions ExtendOp.Movsxd r x z n s = moves n (Operand.Reg r) _ s
 
-  leas : (r : Register) (x : Operand) (n : ℕ) (s : State) → isPlace x ≡ true → Runs c (free (number r) && isPlace x) s (execLea r x n s)
+  leas : (r : Register) (x : Operand) (n : ℕ) (s : State) → isMemory x ≡ true → Runs c (isFree (number r)) s (execLea r x n s)
   leas r Operand.NoOperand n s h = absurd (false≢true h)
   leas r (Operand.Reg q) n s h = absurd (false≢true h)
   leas r (Operand.Imm v) n s h = absurd (false≢true h)
   leas r (Operand.Sym k) n s h = absurd (false≢true h)
   leas r (Operand.Label l) n s h = absurd (false≢true h)
-  leas r (Operand.MemoryAddress a) n s h =
-      let m = moves n (Operand.Reg r) _ s in
-      record { sp = λ e. m .sp (both (free (number r)) true e .0); bp = λ e. m .bp (both (free (number r)) true e .0); to = inl refl; df = refl }
+  leas r (Operand.MemoryAddress a) n s h = moves n (Operand.Reg r) _ s
 
   jumps : (b : Bool) (t : Operand) (s : State) → isLabelOperand t ≡ true → Runs c b s (jump c t s)
   jumps b Operand.NoOperand s h = absurd (false≢true h)
@@ -208,7 +191,7 @@ module _ (c : List Instruction) where
   freely : {s s′ : State} → s′ .pos ≡ suc (s .pos) → s′ .flags .df ≡ s .flags .df → Runs c false s s′
   freely e f = record { sp = λ h. absurd (false≢true h); bp = λ h. absurd (false≢true h); to = inl e; df = f }
 
-  controls : (op : CtrlOp) (t : Operand) (u : Choice) (s : State) → goesCtrl op t ≡ true → Runs c (tameCtrl op t) s (execCtrl c op t u s)
+  controls : (op : CtrlOp) (t : Operand) (u : Choice) (s : State) → isControl op t ≡ true → Runs c (tameCtrl op t) s (execCtrl c op t u s)
   controls CtrlOp.Jmp t u s h = jumps (isLabelOperand t) t s h
   controls CtrlOp.Call t u s h = still true refl refl refl refl
   controls CtrlOp.Ret t u s h = freely refl refl
@@ -223,16 +206,16 @@ module _ (c : List Instruction) where
   stacks StackOp.Pop (Operand.Label l) s = freely refl refl
   stacks StackOp.Pop (Operand.MemoryAddress a) s = freely refl refl
 
-  -- ---- all of them
+  -- ---- all that the manual has
 
-  pub runs : (u : Choice) (i : Instruction) (s : State) → goes i ≡ true → Runs c (tame i) s (exec c u i s)
-  unfolding exec
-  runs u (Instruction.Binary op d x z) s h = binaries op d x (bytes z) u s
+  pub runs : (u : Choice) (i : Instruction) (s : State) → known i ≡ true → Runs c (tame i) s (exec c u i s)
+  unfolding exec known
+  runs u (Instruction.Binary op d x z) s h = binaries op d x (bytes z) u s h
   runs u (Instruction.ComplexBinary op d x z) s h = complexes op d x (bytes z) u s
   runs u (Instruction.Convert op r x z) s h = conversions op r (bytes z) u s
   runs u (Instruction.Ctrl op t) s h = controls op t u s h
   runs u (Instruction.Extend op r x y z) s h = extensions op r x (bytes y) (bytes z) s
-  runs u (Instruction.Lea x r z) s h = leas r x (bytes z) s h
+  runs u (Instruction.Lea x r z) s h = leas r x (bytes z) s (both (isMemory x) (eqb (bytes z) 8) (both (isGeneral r) (isMemory x && eqb (bytes z) 8) h .1) .0)
   runs u (Instruction.Label l) s h = still true refl refl refl refl
   runs u (Instruction.Prefix p op z) s h = still true refl refl refl refl
   runs u (Instruction.SetCC op d) s h = moves 1 d _ s
@@ -240,55 +223,3 @@ module _ (c : List Instruction) where
       (shiftCount (bytes z) (read 1 x s)) (s .flags))
   runs u (Instruction.Stack op x z) s h = stacks op x s
   runs u (Instruction.Unary op d z) s h = unaries op d (bytes z) s
-
--- ---- which records go on
-
-tame-control : (op : CtrlOp) (t : Operand) → tameCtrl op t ≡ true → goesCtrl op t ≡ true
-tame-control CtrlOp.Jmp t h = h
-tame-control CtrlOp.Call t h = refl
-tame-control CtrlOp.Ret t h = refl
-tame-control (CtrlOp.JmpCC k) t h = h
-
-pub tame-goes : (i : Instruction) → tame i ≡ true → goes i ≡ true
-tame-goes (Instruction.Binary op d x z) h = refl
-tame-goes (Instruction.ComplexBinary op d x z) h = refl
-tame-goes (Instruction.Convert op r x z) h = refl
-tame-goes (Instruction.Ctrl op t) h = tame-control op t h
-tame-goes (Instruction.Extend op r x y z) h = refl
-tame-goes (Instruction.Lea x r z) h = both (free (number r)) (isPlace x) h .1
-tame-goes (Instruction.Label l) h = refl
-tame-goes (Instruction.Prefix p op z) h = refl
-tame-goes (Instruction.SetCC op d) h = refl
-tame-goes (Instruction.Shift op d x z) h = refl
-tame-goes (Instruction.Stack op x z) h = refl
-tame-goes (Instruction.Unary op d z) h = refl
-
-memory-place : (x : Operand) → isMemory x ≡ true → isPlace x ≡ true
-memory-place Operand.NoOperand h = h
-memory-place (Operand.Reg r) h = h
-memory-place (Operand.Imm v) h = h
-memory-place (Operand.Sym k) h = h
-memory-place (Operand.Label l) h = h
-memory-place (Operand.MemoryAddress a) h = refl
-
-known-control : (op : CtrlOp) (t : Operand) → isControl op t ≡ true → goesCtrl op t ≡ true
-known-control CtrlOp.Jmp t h = h
-known-control CtrlOp.Call t h = refl
-known-control CtrlOp.Ret t h = refl
-known-control (CtrlOp.JmpCC k) t h = h
-
-pub known-goes : (i : Instruction) → known i ≡ true → goes i ≡ true
-unfolding known
-known-goes (Instruction.Binary op d x z) h = refl
-known-goes (Instruction.ComplexBinary op d x z) h = refl
-known-goes (Instruction.Convert op r x z) h = refl
-known-goes (Instruction.Ctrl op t) h = known-control op t h
-known-goes (Instruction.Extend op r x y z) h = refl
-known-goes (Instruction.Lea x r z) h =
-    memory-place x (both (isMemory x) (eqb (bytes z) 8) (both (isGeneral r) (isMemory x && eqb (bytes z) 8) h .1) .0)
-known-goes (Instruction.Label l) h = refl
-known-goes (Instruction.Prefix p op z) h = refl
-known-goes (Instruction.SetCC op d) h = refl
-known-goes (Instruction.Shift op d x z) h = refl
-known-goes (Instruction.Stack op x z) h = refl
-known-goes (Instruction.Unary op d z) h = refl

@@ -1,4 +1,5 @@
--- Demand 2: what the System V ABI asks of every accepted list, with its floats and calls (01, the demands; System V ABI, 3.2.2 and 3.2.3).
+-- Believed: it is demand 2. What the System V ABI asks of every accepted list, with its floats and calls: 3.2.1 (the direction flag), 3.2.2 (the stack
+-- frame), 3.2.3 (parameter passing); the slots by 01, "For demand 3".
 use Prim.Native.Nat.{ℕ, suc, _+_, _-_, _%_, _<_, _≤_, max}
 use mathlib.Core.Path.{_≡_}
 use mathlib.Core.Logic.{_⊎_}
@@ -6,7 +7,7 @@ use mathlib.Core.Bool.{Bool, true, false, cond}
 use mathlib.Core.List.{List, [], _∷_, _++_}
 use mathlib.Core.Option.{some}
 use lib.Dec.{eqb}
-use lib.ListN.{length, getD, drop}
+use lib.ListN.{length, getD, take, drop}
 use Rattle.ir.specs.declared.«Type».{«Type» as IrType}
 use Rattle.ir.specs.declared.VarId.{VarId}
 use Rattle.ir.specs.declared.Operand.{Operand as IrOp}
@@ -95,7 +96,7 @@ InSlots vars N (Instruction.Unary op dst size) = InSlot vars (N true) (encodings
 
 -- ---- arguments
 
--- the arguments that go into general registers, and those that go into XMM registers, in order
+-- the arguments that go into general registers, and those that go into XMM registers, in order (System V ABI, 3.2.3)
 abbrev pub isFloatArgument : IrOp → Bool
 isFloatArgument (IrOp.Var v) = isFloat (v .ty)
 isFloatArgument (IrOp.Int n short unsigned) = false
@@ -128,7 +129,7 @@ argument vars (IrOp.DataAddress k) s = s .links Base.String k % W
 argument vars IrOp.Null s = 0
 
 -- s is the state at the first record of a Call's block, s′ that at its Call: the registers hold the arguments, with zeros above, and RAX the
--- number of those in XMM registers
+-- number of those in XMM registers (System V ABI, 3.2.3)
 pub record Passed (vars : List IrType) (xs : List IrOp) (s s′ : State) : Type 0 where
   pub inWords : (k : ℕ) → k < length (words xs) → s′ .regs (getD abiRegisters k 0) ≡ argument vars (getD (words xs) k IrOp.Null) s
   pub inFloats : (k : ℕ) → k < length (floats xs) → s′ .regs (16 + k) ≡ argument vars (getD (floats xs) k IrOp.Null) s
@@ -271,7 +272,7 @@ pub record Addressed (tables : Tables) (F : Function) (c : List Instruction) : T
 abbrev pub Next : List Instruction → State → List Instruction → Type 0
 Next c s r = (s .status ≡ x86.running) × (drop (s .pos) c ≡ r)
 
--- at a Call: RSP is a multiple of 16, the frame lies from RSP to RBP, the direction flag is clear
+-- at a Call: RSP is a multiple of 16 and the frame lies from RSP to RBP (System V ABI, 3.2.2), the direction flag is clear (3.2.1)
 pub record Aligned (vars : List IrType) (s₀ s : State) : Type 0 where
   pub aligned : s .regs 4 % 16 ≡ 0
   pub sp : s .regs 4 ≡ (base s₀ + (W - frameSize vars)) % W
@@ -321,11 +322,16 @@ filled F s =
     stored (F .vars) (base s) (s .regs) abiFloatRegisters (parametersOf true (F .params))
     (stored (F .vars) (base s) (s .regs) abiRegisters (parametersOf false (F .params)) (store (s .mem) (base s) 8 (s .regs 5)))
 
--- parameters whose stores do not meet: each has its entry's size, and ids are distinct
+-- the parameters that are stored: the first six that are no floats, and the first eight that are (System V ABI, 3.2.3)
+abbrev pub storedParameters : List VarId → List VarId
+storedParameters params = take 6 (parametersOf false params) ++ take 8 (parametersOf true params)
+
+-- no parameter of ps has the id x
 abbrev pub Without : ℕ → List VarId → Type 0
 Without x [] = Unit {0}
 Without x (p ∷ ps) = (x ≡ p .id → ⊥) × Without x ps
 
+-- parameters whose stores do not meet: each has its entry's size, and ids are distinct
 abbrev pub Apart : List IrType → List VarId → Type 0
 Apart vars [] = Unit {0}
 Apart vars (p ∷ ps) = (p .id < length vars) × (sizeOf vars (p .id) ≡ bytes (p .ty)) × Without (p .id) ps × Apart vars ps
@@ -344,12 +350,12 @@ pub record Received (F : Function) (s₀ s : State) : Type 0 where
   pub inFloats : (k : ℕ) → k < length (parametersOf true (F .params)) → k < 8
       → Has (F .vars) (base s₀) (s .mem) (getD (parametersOf true (F .params)) k noVar) (s₀ .regs (16 + k))
 
--- at the first record behind the prologue
+-- at the first record behind the prologue; of parameters that are not stored nothing is asked
 pub record Entered (tables : Tables) (F : Function) (s₀ s : State) : Type 0 where
   pub running : s .status ≡ x86.running
   pub at : s .pos ≡ place tables F 0
   pub memory : s .mem ≡ filled F s₀
-  pub received : Apart (F .vars) (F .params) → Received F s₀ s
+  pub received : Apart (F .vars) (storedParameters (F .params)) → Received F s₀ s
 
 -- ---- the claim
 
@@ -379,6 +385,8 @@ pub record Demand2 (tables sheet records : List ℕ) (n : ℕ) : Type 0 where
   pub frame : getD list 2 (Instruction.Label 0) ≡ Instruction.Binary BinOp.Sub (Operand.Reg RSP) (Operand.Imm (frameSize (functionOf sheet .vars))) Size.NoSize
   pub slots : Addressed (tablesOf tables) (functionOf sheet) list
   pub within : Plain tables sheet → Within (tablesOf tables) (functionOf sheet)
+  -- a record that the manual does not have only computes: in particular every Call is of a symbol, every jump to a label
+  pub computing : (j : ℕ) → j < length list → encodings.known (getD list j noRecord) ≡ false → x86.computes (getD list j noRecord) ≡ true
   -- every run, as far as it comes to no record that the manual does not have
   pub obeys : (o : ℕ → Choice) (s₀ : State) → Entry s₀ → Obeys (tablesOf tables) (functionOf sheet) list (λ m. x86.run list o m s₀) (λ a b. Unit {0}) s₀
   -- .. and whatever such records do, as long as they keep RSP, RBP and the direction flag; arguments that they bring are open

@@ -1,5 +1,6 @@
--- Which records have an encoding (Intel's manual, volume 2, the opcode tables of each instruction; volume 2A, 2.2.1.3: displacements and
--- immediates have at most four bytes, copied to eight by their sign, but for MOV r64, imm64). Accepted lists can hold others: docs/DIFFERENCES.md.
+-- Believed: demands 2 and 3 rest on it. Which records have an encoding: Intel's manual, volume 2, the opcode table of each instruction; volume 2A,
+-- 2.2.1.3, "Displacement", and 2.2.1.5, "Immediates": both have at most four bytes, copied to eight by their sign, but for MOV r64, imm64. Accepted
+-- lists can hold others: docs/DIFFERENCES.md.
 use Prim.Native.Nat.{ℕ, _+_, _/_, _%_, _^_}
 use mathlib.Core.Bool.{Bool, true, false, cond, not, _&&_, _||_}
 use lib.Dec.{ltb, leb, eqb}
@@ -15,9 +16,10 @@ use Rattle.x86.specs.declared.enums.ExtendOp.{ExtendOp}
 use Rattle.x86.specs.declared.enums.ConvOp.{ConvOp}
 use Rattle.x86.specs.declared.enums.Instruction.{Instruction}
 use Rattle.x86.specs.Registers.{number}
+use Rattle.x86.specs.Records.{sizeCode}
 use Rattle.machine.specs.Word.{W, bound}
 
--- no size means eight bytes (01, "Plain integer functions")
+-- no size means eight bytes (01, "Plain integer functions"); for a form that has one width only see `isOwn`
 abbrev pub bytes : Size → ℕ
 bytes Size.NoSize = 8
 bytes Size.U8 = 1
@@ -25,13 +27,17 @@ bytes Size.U16 = 2
 bytes Size.U32 = 4
 bytes Size.U64 = 8
 
+-- n bytes, or no size: the width of a form that has only this one (01, "Plain integer functions")
+abbrev pub isOwn : ℕ → Size → Bool
+isOwn n z = eqb (sizeCode z) 0 || eqb (bytes z) n
+
 abbrev pub isGeneral : Register → Bool
 isGeneral r = ltb (number r) 16
 
 abbrev pub isXmm : Register → Bool
 isXmm r = leb 16 (number r) && ltb (number r) 32
 
--- ---- immediates and addresses
+-- ---- immediates and displacements (volume 2A, 2.2.1.5 and 2.2.1.3)
 
 -- the pattern of a number from -2^31 to 2^31 - 1: four bytes whose sign is copied
 abbrev pub isNear : ℕ → Bool
@@ -47,6 +53,24 @@ isPlaced Base.String k = true
 isPlaced Base.Float k = true
 
 -- ---- operands
+
+-- none at all
+abbrev pub isNone : Operand → Bool
+isNone Operand.NoOperand = true
+isNone (Operand.Reg r) = false
+isNone (Operand.Imm v) = false
+isNone (Operand.Sym k) = false
+isNone (Operand.Label l) = false
+isNone (Operand.MemoryAddress a) = false
+
+-- a function of the linker's
+abbrev pub isSymbol : Operand → Bool
+isSymbol Operand.NoOperand = false
+isSymbol (Operand.Reg r) = false
+isSymbol (Operand.Imm v) = false
+isSymbol (Operand.Sym k) = true
+isSymbol (Operand.Label l) = false
+isSymbol (Operand.MemoryAddress a) = false
 
 abbrev pub isMemory : Operand → Bool
 isMemory Operand.NoOperand = false
@@ -118,27 +142,33 @@ abbrev pub isGeneralForm : Bool → Operand → Operand → Bool → ℕ → Boo
 isGeneralForm isMov d x isRegister n =
     (isRegister && isGeneralOrMemory x) || ((isMemory d && isGeneralOperand x) || (isGeneralOrMemory d && isImmediate (isMov && isRegister) n x))
 
+-- XCHG, ADC, SBB, TEST, COMISD and COMISS are in Krc's enum, no list holds them, and the claims' machine does not have them
 abbrev pub isBinary : BinOp → Operand → Operand → ℕ → Bool
 isBinary BinOp.Mov d x n = isSized n && isGeneralForm true d x (isGeneralOperand d) n
+isBinary BinOp.Xchg d x n = false
 isBinary BinOp.Add d x n = isSized n && isGeneralForm false d x (isGeneralOperand d) n
 isBinary BinOp.Sub d x n = isSized n && isGeneralForm false d x (isGeneralOperand d) n
+isBinary BinOp.Adc d x n = false
+isBinary BinOp.Sbb d x n = false
 isBinary BinOp.And d x n = isSized n && isGeneralForm false d x (isGeneralOperand d) n
 isBinary BinOp.Or d x n = isSized n && isGeneralForm false d x (isGeneralOperand d) n
 isBinary BinOp.Xor d x n = isSized n && isGeneralForm false d x (isGeneralOperand d) n
 isBinary BinOp.Cmp d x n = isSized n && isGeneralForm false d x (isGeneralOperand d) n
+isBinary BinOp.Test d x n = false
 isBinary BinOp.LoadF d x n = isFourOrEight n && (isXmmOperand d && isMemory x)
 isBinary BinOp.StoreF d x n = isFourOrEight n && (isMemory d && isXmmOperand x)
 isBinary BinOp.AddF d x n = isFourOrEight n && (isXmmOperand d && isXmmOrMemory x)
 isBinary BinOp.SubF d x n = isFourOrEight n && (isXmmOperand d && isXmmOrMemory x)
 isBinary BinOp.MulF d x n = isFourOrEight n && (isXmmOperand d && isXmmOrMemory x)
 isBinary BinOp.DivF d x n = isFourOrEight n && (isXmmOperand d && isXmmOrMemory x)
+isBinary BinOp.ComiF d x n = false
 isBinary BinOp.UcomiF d x n = isFourOrEight n && (isXmmOperand d && isXmmOrMemory x)
 
--- IMUL r, r/m has no byte form
+-- DIV r/m and IDIV r/m have one operand, src; IMUL r, r/m has no byte form
 abbrev pub isComplex : ComplexBinOp → Operand → Operand → ℕ → Bool
-isComplex ComplexBinOp.Div d x n = isSized n && isGeneralOrMemory x
+isComplex ComplexBinOp.Div d x n = isSized n && (isNone d && isGeneralOrMemory x)
 isComplex ComplexBinOp.Imul d x n = isSized n && (not (eqb n 1) && (isGeneralOperand d && isGeneralOrMemory x))
-isComplex ComplexBinOp.Idiv d x n = isSized n && isGeneralOrMemory x
+isComplex ComplexBinOp.Idiv d x n = isSized n && (isNone d && isGeneralOrMemory x)
 
 -- CVTSI2SD, CVTSI2SS read r/m32 or r/m64, CVTTSD2SI, CVTTSS2SI write r32 or r64
 abbrev pub isConversion : ConvOp → Register → Operand → ℕ → Bool
@@ -154,21 +184,23 @@ abbrev pub isExtension : ExtendOp → Register → Operand → ℕ → ℕ → B
 isExtension ExtendOp.Movsxd r x z n = isGeneral r && (isGeneralOrMemory x && (eqb z 4 && eqb n 8))
 isExtension ExtendOp.Movzx r x z n = isGeneral r && (isGeneralOrMemory x && (eqb z 1 && eqb n 8))
 
-abbrev pub isUnary : UnaryOp → Operand → ℕ → Bool
-isUnary UnaryOp.Neg d n = isSized n && isGeneralOrMemory d
-isUnary UnaryOp.Not d n = isSized n && isGeneralOrMemory d
-isUnary UnaryOp.Cdq d n = true
-isUnary UnaryOp.Cqo d n = true
+-- CDQ and CQO have no operand, and a width of their own
+abbrev pub isUnary : UnaryOp → Operand → Size → Bool
+isUnary UnaryOp.Neg d z = isSized (bytes z) && isGeneralOrMemory d
+isUnary UnaryOp.Not d z = isSized (bytes z) && isGeneralOrMemory d
+isUnary UnaryOp.Cdq d z = isNone d && isOwn 4 z
+isUnary UnaryOp.Cqo d z = isNone d && isOwn 8 z
 
+-- JMP and Jcc to a label, CALL of a symbol, RET with no operand: the claims' machine does not have the manual's other forms of these, nor any list
 abbrev pub isControl : CtrlOp → Operand → Bool
 isControl CtrlOp.Jmp t = isLabelOperand t
-isControl CtrlOp.Call t = true
-isControl CtrlOp.Ret t = true
+isControl CtrlOp.Call t = isSymbol t
+isControl CtrlOp.Ret t = isNone t
 isControl (CtrlOp.JmpCC cc) t = isLabelOperand t
 
 -- ---- all records
 
--- REP STOS stands for its byte form; PUSH and POP have eight bytes
+-- LEA r64, m; REP STOS stands for its byte form; PUSH and POP have eight bytes
 unfoldable pub known : Instruction → Bool
 known (Instruction.Binary op dst src size) = isBinary op dst src (bytes size)
 known (Instruction.ComplexBinary op dst src size) = isComplex op dst src (bytes size)
@@ -181,4 +213,4 @@ known (Instruction.Prefix prefix op size) = eqb (bytes size) 1
 known (Instruction.SetCC op dst) = isGeneralOrMemory dst
 known (Instruction.Shift op dst src size) = isSized (bytes size) && (isGeneralOrMemory dst && isCounter src)
 known (Instruction.Stack op value size) = isGeneralOperand value && eqb (bytes size) 8
-known (Instruction.Unary op dst size) = isUnary op dst (bytes size)
+known (Instruction.Unary op dst size) = isUnary op dst size

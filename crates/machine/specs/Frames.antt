@@ -1,4 +1,5 @@
--- The variables' slots and the frame (01, demand 2 and "For demand 3"): the claims' own text, which shares nothing with the lowering's.
+-- Believed: demands 2 and 3 rest on it. The variables' slots and the frame (01, demand 2 and "For demand 3"), in the claims' own words: with the
+-- lowering they share the sizes of types, and no offset.
 use Prim.Native.Nat.{ℕ, zero, suc, _+_, _*_, _-_, _/_, _%_, _<_, _≤_}
 use mathlib.Core.Path.{_≡_}
 use mathlib.Core.List.{List, [], _∷_}

@@ -1,3 +1,4 @@
+-- Believed, all of them: the claims of demands 2 and 3 and what they rest on.
 pub mod Word
 pub mod Machine
 pub mod Encodings

@@ -1,8 +1,8 @@
--- x86-64 as far as lists of records use it: Intel's manual, volume 2 (each instruction's "Operation" and "Flags Affected"), volume 1, 3.4.1.1 (a
--- four-byte register write clears the upper half), and the System V ABI, 3.2 (what a callee keeps). Assumes nothing.
+-- Believed: demands 2 and 3 rest on it. x86-64 as far as lists of records use it: Intel's manual, volume 2 (each instruction's "Operation" and
+-- "Flags Affected"), volume 1, 3.4.1.1 (a four-byte register write clears the upper half), and the System V ABI, 3.2.1 (what a callee keeps).
 -- What they leave open, and what a float operation gives, comes from a `Choice`, any, one for each record that is run.
 use Prim.Native.Nat.{ℕ, zero, suc, _+_, _*_, _-_, _/_, _%_, _^_}
-use mathlib.Core.Bool.{Bool, false, cond, not, _&&_, _||_, Bool·beq}
+use mathlib.Core.Bool.{Bool, true, false, cond, not, _&&_, _||_}
 use mathlib.Core.List.{List, [], _∷_}
 use lib.Dec.{ltb, leb, eqb}
 use lib.ListN.{drop}
@@ -21,7 +21,7 @@ use Rattle.x86.specs.declared.enums.ExtendOp.{ExtendOp}
 use Rattle.x86.specs.declared.enums.ConvOp.{ConvOp}
 use Rattle.x86.specs.declared.enums.Instruction.{Instruction}
 use Rattle.x86.specs.Registers.{number}
-use Rattle.machine.specs.Word.{W, bound, above, store, load, update, sign, widen, invert, arithDown, bitAnd, bitOr, bitXor}
+use Rattle.machine.specs.Word.{W, bound, above, store, load, update, sign, widen, invert, arithDown, differ, magnitude, negated, bitAnd, bitOr, bitXor}
 use Rattle.machine.specs.Encodings.{known, bytes}
 
 -- ---- states
@@ -79,7 +79,7 @@ withReg r v s = record { regs = update (s .regs) r v; mem = s .mem; flags = s .f
 
 -- ---- operands
 
--- a write of one or two bytes keeps the bits above them, one of four clears the upper half
+-- a write of one or two bytes keeps the bits above them, one of four clears the upper half (volume 1, 3.4.1.1)
 abbrev pub keepsUpper : ℕ → Bool
 keepsUpper n = ltb n 4
 
@@ -105,6 +105,7 @@ read n (Operand.Sym k) s = 0
 read n (Operand.Label l) s = 0
 read n (Operand.MemoryAddress a) s = load (s .mem) (address a s) n
 
+-- the n low bytes of v, into a register or memory
 abbrev pub write : ℕ → Operand → ℕ → State → State
 write n Operand.NoOperand v s = s
 write n (Operand.Reg r) v s = withReg (number r) (merge n (s .regs (number r)) v) s
@@ -113,7 +114,8 @@ write n (Operand.Sym k) v s = s
 write n (Operand.Label l) v s = s
 write n (Operand.MemoryAddress a) v s = withMem (store (s .mem) (address a s) n v) s
 
--- the second operand of an operation other than Mov: an immediate has at most four bytes, and an eight-byte operation copies its sign
+-- the second operand of an operation other than Mov: an immediate has at most four bytes, and an eight-byte operation copies its sign (volume 2A,
+-- 2.2.1.5, "Immediates")
 abbrev pub second : ℕ → Operand → State → ℕ
 second n Operand.NoOperand s = 0
 second n (Operand.Reg r) s = read n (Operand.Reg r) s
@@ -123,9 +125,6 @@ second n (Operand.Label l) s = 0
 second n (Operand.MemoryAddress a) s = read n (Operand.MemoryAddress a) s
 
 -- ---- flags
-
-abbrev pub differ : Bool → Bool → Bool
-differ a b = not (Bool·beq a b)
 
 abbrev pub plus : ℕ → ℕ → ℕ → ℕ
 plus n a b = (a + b) % bound n
@@ -210,20 +209,26 @@ withXmm (Operand.MemoryAddress a) v s = s
 abbrev pub comparedFlags : Flags → Flags → Flags
 comparedFlags u f = record { zf = u .zf; sf = false; cf = u .cf; pf = u .pf; ov = false; df = f .df }
 
+-- undefined for the operations that the machine does not have; `known` turns them away before
 abbrev pub execBinary : BinOp → Operand → Operand → ℕ → Choice → State → State
 execBinary BinOp.Mov d x n u s = next (write n d (read n x s) s)
+execBinary BinOp.Xchg d x n u s = withStatus undefined s
 execBinary BinOp.Add d x n u s = computed n d (plus n (read n d s) (second n x s)) (plusFlags n (read n d s) (second n x s) (s .flags)) s
 execBinary BinOp.Sub d x n u s = computed n d (minus n (read n d s) (second n x s)) (minusFlags n (read n d s) (second n x s) (s .flags)) s
+execBinary BinOp.Adc d x n u s = withStatus undefined s
+execBinary BinOp.Sbb d x n u s = withStatus undefined s
 execBinary BinOp.And d x n u s = logical n d (bitAnd n (read n d s) (second n x s)) s
 execBinary BinOp.Or d x n u s = logical n d (bitOr n (read n d s) (second n x s)) s
 execBinary BinOp.Xor d x n u s = logical n d (bitXor n (read n d s) (second n x s)) s
 execBinary BinOp.Cmp d x n u s = next (withFlags (minusFlags n (read n d s) (second n x s) (s .flags)) s)
+execBinary BinOp.Test d x n u s = withStatus undefined s
 execBinary BinOp.LoadF d x n u s = next (withXmm d (read n x s) s)
 execBinary BinOp.StoreF d x n u s = next (write n d (read n x s) s)
 execBinary BinOp.AddF d x n u s = next (withLow n d (u .result) s)
 execBinary BinOp.SubF d x n u s = next (withLow n d (u .result) s)
 execBinary BinOp.MulF d x n u s = next (withLow n d (u .result) s)
 execBinary BinOp.DivF d x n u s = next (withLow n d (u .result) s)
+execBinary BinOp.ComiF d x n u s = withStatus undefined s
 execBinary BinOp.UcomiF d x n u s = next (withFlags (comparedFlags (u .flags) (s .flags)) s)
 
 -- ---- DIV, IDIV, IMUL
@@ -243,12 +248,6 @@ abbrev pub divideBy : Flags → ℕ → ℕ → ℕ → State → State
 divideBy u n a b s =
     cond (eqb b 0 || leb (bound n) (a / b)) (withStatus faulted (next s))
     (next (withFlags (undefinedFlags u (s .flags)) (quotientTo n (a / b) (a % b) s)))
-
-abbrev pub magnitude : ℕ → ℕ → ℕ
-magnitude n a = cond (sign n a) (bound n - a) a
-
-abbrev pub negated : Bool → ℕ → ℕ → ℕ
-negated b n a = cond b ((bound n - a) % bound n) a
 
 -- IDIV: truncated towards 0, the remainder with the dividend's sign; a zero divisor, or a quotient that n bytes do not hold as a signed number, faults
 abbrev pub divideSigned : Flags → ℕ → ℕ → ℕ → State → State
@@ -274,6 +273,26 @@ execComplex ComplexBinOp.Div d x n u s = divideBy (u .flags) n (dividend n s) (r
 execComplex ComplexBinOp.Imul d x n u s = multiplyBy (u .flags) d n (read n d s) (read n x s) s
 execComplex ComplexBinOp.Idiv d x n u s = divideSigned (u .flags) n (dividend n s) (read n x s) s
 
+-- DIV and IDIV: of the records only these fault (01, "Plain integer functions")
+abbrev pub isDivision : ComplexBinOp → Bool
+isDivision ComplexBinOp.Div = true
+isDivision ComplexBinOp.Imul = false
+isDivision ComplexBinOp.Idiv = true
+
+abbrev pub isDividing : Instruction → Bool
+isDividing (Instruction.Binary op dst src size) = false
+isDividing (Instruction.ComplexBinary op dst src size) = isDivision op
+isDividing (Instruction.Convert op dst src size) = false
+isDividing (Instruction.Ctrl op target) = false
+isDividing (Instruction.Extend op dst src srcSize size) = false
+isDividing (Instruction.Lea src dst size) = false
+isDividing (Instruction.Label n) = false
+isDividing (Instruction.Prefix prefix op size) = false
+isDividing (Instruction.SetCC op dst) = false
+isDividing (Instruction.Shift op dst src size) = false
+isDividing (Instruction.Stack op value size) = false
+isDividing (Instruction.Unary op dst size) = false
+
 -- ---- NEG, NOT, CDQ, CQO
 
 -- CDQ and CQO: RDX's low n bytes become copies of the sign of RAX's
@@ -297,7 +316,7 @@ shifted ShiftOp.Shl n a k = a * 2 ^ k % bound n
 shifted ShiftOp.Shr n a k = a / 2 ^ k
 shifted ShiftOp.Sar n a k = arithDown n a k
 
--- CF, the last bit moved out, for k above 0; it is undefined where SHL and SHR move out more than there is
+-- CF, the last bit moved out, for k above 0; it is undefined where SHL and SHR move by as many bits as there are, or more
 abbrev pub lastOut : ShiftOp → Flags → ℕ → ℕ → ℕ → Bool
 lastOut ShiftOp.Shl u n a k = cond (leb (8 * n) k) (u .cf) (eqb (a / 2 ^ (8 * n - k) % 2) 1)
 lastOut ShiftOp.Shr u n a k = cond (leb (8 * n) k) (u .cf) (eqb (a / 2 ^ (k - 1) % 2) 1)
@@ -335,13 +354,13 @@ execConvert ConvOp.Cvtss2sd r n u s = next (withLow 8 (Operand.Reg r) (u .result
 execConvert ConvOp.Cvttsd2si r n u s = next (write n (Operand.Reg r) (u .result) s)
 execConvert ConvOp.Cvttss2si r n u s = next (write n (Operand.Reg r) (u .result) s)
 
--- LEA
+-- LEA; undefined where there is no address, which `known` turns away before
 abbrev pub execLea : Register → Operand → ℕ → State → State
-execLea r Operand.NoOperand n s = s
-execLea r (Operand.Reg q) n s = s
-execLea r (Operand.Imm v) n s = s
-execLea r (Operand.Sym k) n s = s
-execLea r (Operand.Label l) n s = s
+execLea r Operand.NoOperand n s = withStatus undefined s
+execLea r (Operand.Reg q) n s = withStatus undefined s
+execLea r (Operand.Imm v) n s = withStatus undefined s
+execLea r (Operand.Sym k) n s = withStatus undefined s
+execLea r (Operand.Label l) n s = withStatus undefined s
 execLea r (Operand.MemoryAddress a) n s = next (write n (Operand.Reg r) (address a s) s)
 
 -- ---- PUSH, POP, REP STOS
@@ -385,19 +404,21 @@ unfoldable pub find : ℕ → List Instruction → ℕ
 find l [] = 0
 find l (i ∷ c) = cond (isLabel l i) 0 (suc (find l c))
 
+-- undefined where there is no label, which `known` turns away before
 abbrev pub jump : List Instruction → Operand → State → State
-jump c Operand.NoOperand s = s
-jump c (Operand.Reg r) s = s
-jump c (Operand.Imm v) s = s
-jump c (Operand.Sym k) s = s
+jump c Operand.NoOperand s = withStatus undefined s
+jump c (Operand.Reg r) s = withStatus undefined s
+jump c (Operand.Imm v) s = withStatus undefined s
+jump c (Operand.Sym k) s = withStatus undefined s
 jump c (Operand.Label l) s = goto (find l c) s
-jump c (Operand.MemoryAddress a) s = s
+jump c (Operand.MemoryAddress a) s = withStatus undefined s
 
--- a callee keeps RBX, RSP, RBP and R12 to R15 (System V ABI, figure 3.4)
+-- a callee keeps RBX, RSP, RBP and R12 to R15 (System V ABI, 3.2.1, figure 3.4)
 abbrev pub isKept : ℕ → Bool
 isKept r = eqb r 3 || (eqb r 4 || (eqb r 5 || (leb 12 r && leb r 15)))
 
--- a Call, with all that is run until its callee has returned behind it; the direction flag is kept too
+-- a Call, with all that is run until its callee has returned behind it; the direction flag stays, being clear at a callee's entry and return (System V
+-- ABI, 3.2.1)
 abbrev pub called : Choice → State → State
 called u s =
     record {
@@ -452,7 +473,35 @@ run c o (suc m) s = step c (o m) (run c o m s)
 
 -- ---- behind a record that the manual does not have
 
--- such a record, as anything that goes on behind it and keeps RSP, RBP and the direction flag
+-- a register other than RSP and RBP
+abbrev pub isFree : ℕ → Bool
+isFree r = not (eqb 4 r || eqb 5 r)
+
+-- a destination other than these
+abbrev pub isFreeOperand : Operand → Bool
+isFreeOperand Operand.NoOperand = true
+isFreeOperand (Operand.Reg r) = isFree (number r)
+isFreeOperand (Operand.Imm v) = true
+isFreeOperand (Operand.Sym k) = true
+isFreeOperand (Operand.Label l) = true
+isFreeOperand (Operand.MemoryAddress a) = true
+
+-- a record that only computes, by its form: it does not jump, call, return, push or pop, and its destination is neither RSP nor RBP
+abbrev pub computes : Instruction → Bool
+computes (Instruction.Binary op dst src size) = isFreeOperand dst
+computes (Instruction.ComplexBinary op dst src size) = isFreeOperand dst
+computes (Instruction.Convert op dst src size) = isFree (number dst)
+computes (Instruction.Ctrl op target) = false
+computes (Instruction.Extend op dst src srcSize size) = isFree (number dst)
+computes (Instruction.Lea src dst size) = isFree (number dst)
+computes (Instruction.Label n) = true
+computes (Instruction.Prefix prefix op size) = true
+computes (Instruction.SetCC op dst) = isFreeOperand dst
+computes (Instruction.Shift op dst src size) = isFreeOperand dst
+computes (Instruction.Stack op value size) = false
+computes (Instruction.Unary op dst size) = isFreeOperand dst
+
+-- such a record, where it only computes: as anything that goes on behind it and keeps RSP, RBP and the direction flag
 abbrev pub beyond : Choice → State → State
 beyond u s =
     record {

@@ -1,5 +1,5 @@
--- Which functions are plain (01, "Plain integer functions"): for each number whether it is at fault, 0 for variables, parameters, the return type
--- and refusals 1 to 3, else the instruction's number from 1.
+-- Believed: demand 3 and the plain test rest on it. Which functions are plain (01, "Plain integer functions"): for each number whether it is at
+-- fault, 0 for variables, parameters, the return type and refusals 1 to 3, else the instruction's number from 1.
 use Prim.Native.Nat.{ℕ, zero, suc, _+_, _%_, _^_}
 use mathlib.Core.Path.{_≡_}
 use mathlib.Core.Bool.{Bool, true, false, cond, not, _&&_, _||_}

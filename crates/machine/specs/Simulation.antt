@@ -1,4 +1,4 @@
--- Demand 3: what a run of the lowered list of a plain function does, as one claim about the whole run (01, "For demand 3").
+-- Believed: it is demand 3. What a run of the lowered list of a plain function does, as one claim about the whole run (01, "For demand 3").
 use Prim.Native.Nat.{ℕ, suc, _+_, _*_, _-_, _%_, _<_, _≤_}
 use mathlib.Core.Path.{_≡_}
 use mathlib.Core.Logic.{_↔_, _⊎_}
@@ -6,7 +6,7 @@ use mathlib.Core.Bool.{false, cond}
 use mathlib.Core.List.{List, [], _∷_, _++_}
 use mathlib.Core.Option.{some}
 use lib.Dec.{ltb}
-use lib.ListN.{length, take}
+use lib.ListN.{length, getD, take, drop}
 use Rattle.ir.specs.declared.VarId.{VarId}
 use Rattle.ir.specs.Types as types
 use Rattle.ir.specs.Types.{Result, ok, bytes}
@@ -18,37 +18,40 @@ use Rattle.codegen.specs.Frame.{offsetsFrom, frame, funcPrologue}
 use Rattle.codegen.specs.Generation.{generateInstruction}
 use Rattle.machine.specs.Word.{W, bound, above, load}
 use Rattle.machine.specs.Machine as x86
-use Rattle.machine.specs.Machine.{State, Choice}
+use Rattle.machine.specs.Machine.{State, Choice, isDividing}
 use Rattle.machine.specs.Steps as steps
 use Rattle.machine.specs.Steps.{Values, put, arrive}
 use Rattle.machine.specs.Frames.{frameSize, slotByte, sizeOf}
 
--- ---- entry, by the System V ABI, 3.2.2 and 3.2.3
+-- ---- entry, by the System V ABI
 
--- RSP plus 8 is a multiple of 16, the direction flag is clear; nothing else is asked
+-- RSP plus 8 is a multiple of 16 (3.2.2), the direction flag is clear (3.2.1); nothing else is asked
 pub record Entry (s : State) : Type 0 where
   pub going : s .status ≡ x86.running
   pub first : s .pos ≡ 0
   pub aligned : (s .regs 4 + 8) % 16 ≡ 0
   pub upward : s .flags .df ≡ false
 
--- B, where the caller's RBP is saved: RSP at entry less 8; the frame ends here
+-- B, where the caller's RBP is saved: RSP at entry less 8; the frame ends here (01, "For demand 3")
 abbrev pub base : State → ℕ
 base s = (s .regs 4 + (W - 8)) % W
 
--- RDI, RSI, RDX, RCX, R8, R9 carry the parameters in order
+-- RDI, RSI, RDX, RCX, R8, R9 carry the parameters in order (3.2.3)
 abbrev pub abiRegisters : List ℕ
 abiRegisters = 7 ∷ 6 ∷ 2 ∷ 1 ∷ 8 ∷ 9 ∷ []
 
--- a parameter's value is the low bytes of its register
-abbrev pub fill : (ℕ → ℕ) → List VarId → List ℕ → Values → Values
-fill regs [] rs σ = σ
-fill regs (p ∷ ps) [] σ = σ
-fill regs (p ∷ ps) (r ∷ rs) σ = fill regs ps rs (put σ (p .id) (bytes (p .ty)) (regs r % bound (bytes (p .ty))))
+-- the value of parameter j, of n bytes: the low bytes of its register; a plain function has at most six
+abbrev pub parameterAt : State → ℕ → ℕ → ℕ
+parameterAt s j n = s .regs (getD abiRegisters j 0) % bound n
+
+-- the parameters from number j on get their values
+abbrev pub fill : State → ℕ → List VarId → Values → Values
+fill s j [] σ = σ
+fill s j (p ∷ ps) σ = fill s (suc j) ps (put σ (p .id) (bytes (p .ty)) (parameterAt s j (bytes (p .ty))))
 
 -- F at its entry: a parameter starts with its value, any other variable with its slot's bytes
 abbrev pub start : Function → State → steps.State
-start F s = arrive F 0 (fill (s .regs) (F .params) abiRegisters (λ x i. s .mem (slotByte (F .vars) (base s) x i)))
+start F s = arrive F 0 (fill s 0 (F .params) (λ x i. s .mem (slotByte (F .vars) (base s) x i)))
 
 -- ---- F's place
 
@@ -74,6 +77,15 @@ place tables F k =
 abbrev pub behindRet : Tables → Function → List Instruction → ℕ → ℕ
 behindRet tables F c k = cond (ltb k (length (F .body))) (place tables F (suc k)) (length c)
 
+-- the number of records before the first that divides
+unfoldable pub findDivision : List Instruction → ℕ
+findDivision [] = 0
+findDivision (i ∷ c) = cond (isDividing i) 0 (suc (findDivision c))
+
+-- behind the Div or Idiv of instruction k, the record that faults
+abbrev pub behindDivision : Tables → Function → List Instruction → ℕ → ℕ
+behindDivision tables F c k = place tables F k + suc (findDivision (drop (place tables F k) c))
+
 -- ---- the claim
 
 -- the address a lies neither in the frame nor in the saved RBP
@@ -90,10 +102,11 @@ pub record Returned (s₀ s : State) (n v : ℕ) : Type 0 where
   pub bx : s .regs 3 ≡ s₀ .regs 3
   pub others : (r : ℕ) → 12 ≤ r → r ≤ 15 → s .regs r ≡ s₀ .regs r
 
--- how the run of c stands, by how F stands; s₀ is the state at entry. The record that faults is the fourth of its instruction's
+-- how the run of c stands, by how F stands; s₀ is the state at entry. The record that faults is one of its instruction's own
 abbrev pub Stands : Tables → Function → List Instruction → State → State → steps.State → steps.Status → Type 0
 Stands tables F c s₀ s t steps.running = (s .status ≡ x86.running) × (s .pos ≡ place tables F (t .next))
-Stands tables F c s₀ s t steps.faulted = (s .status ≡ x86.faulted) × (s .pos ≡ place tables F (t .next) + 4)
+Stands tables F c s₀ s t steps.faulted =
+    (s .status ≡ x86.faulted) × (s .pos ≡ behindDivision tables F c (t .next)) × (s .pos ≤ place tables F (suc (t .next)))
 Stands tables F c s₀ s t steps.stuck = ⊥
 Stands tables F c s₀ s t (steps.returned n v) = Returned s₀ s n v × (s .pos ≡ behindRet tables F c (t .next))
 
@@ -102,10 +115,14 @@ pub record Agrees (tables : Tables) (F : Function) (c : List Instruction) (s₀ 
   pub slots : (x i : ℕ) → x < length (F .vars) → i < sizeOf (F .vars) x → s .mem (slotByte (F .vars) (base s₀) x i) ≡ t .vals x i
   pub stands : Stands tables F c s₀ s t (t .status)
 
+-- the most records for n steps of F (01, demand 3)
+abbrev pub most : Function → ℕ → ℕ
+most F n = 12 + 5 * n
+
 -- the run keeps pace with F, step by step: after n steps of F, `at n` records have run to F's place
 pub record Follows (tables : Tables) (F : Function) (c : List Instruction) (o : ℕ → Choice) (s₀ : State) : Type 0 where
   pub at : ℕ → ℕ
-  pub few : (n : ℕ) → at n ≤ 12 + 5 * n
+  pub few : (n : ℕ) → at n ≤ most F n
   pub onward : (n : ℕ) → at n ≤ at (suc n)
   -- as long as F goes on, a step is the records of its instruction, all of them and no others: `at` grows wherever there are any
   pub counts : (n : ℕ) → steps.run F (suc n) (start F s₀) .status ≡ steps.running
@@ -116,9 +133,9 @@ pub record Follows (tables : Tables) (F : Function) (c : List Instruction) (o : 
 
 -- `o` has what the manual leaves open
 pub record Simulates (tables : Tables) (F : Function) (c : List Instruction) (o : ℕ → Choice) (s₀ : State) : Type 0 where
-  -- for every n, after n steps of F the records have run to F's place, at most 12 + 5n of them
+  -- for every n, after n steps of F the records have run to F's place, `most F n` of them at most
   pub follows : Follows tables F c o s₀
-  -- they fault exactly when F divides by zero
+  -- they fault exactly when F does, by a Div or Rem that fails
   pub faults :
       ((n : ℕ) × (steps.run F n (start F s₀) .status ≡ steps.faulted)) ↔ ((m : ℕ) × (x86.run c o m s₀ .status ≡ x86.faulted))
   -- they return exactly when F returns

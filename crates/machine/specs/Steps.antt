@@ -1,5 +1,6 @@
--- F's states and steps (01, "Plain integer functions"). They are defined for every function; where an instruction is none that a plain function
--- can have, F is stuck.
+-- Believed: demand 3 rests on it. F's states and steps (01, "Plain integer functions"). They are defined for every function. F is stuck at a Call, at a
+-- logical And or Or, at a float constant, a string address or an `Address` as operand, and where it jumps to a label that stands nowhere. No claim
+-- rests on what else a function does here that is not plain.
 use Prim.Native.Nat.{ℕ, zero, suc, _+_, _*_, _-_, _/_, _%_, _^_}
 use mathlib.Core.Bool.{Bool, true, false, cond, not, _&&_, _||_}
 use mathlib.Core.List.{List, [], _∷_}
@@ -58,7 +59,7 @@ value x σ = valueAt (width x) x σ
 
 -- ---- operations on numbers of n bytes
 
--- arithmetic is modulo 2^width; Div and Rem read both operands as unsigned
+-- a comparison of two numbers; false for the other operations
 abbrev pub compares : BinaryOp → ℕ → ℕ → Bool
 compares BinaryOp.Or a b = false
 compares BinaryOp.And a b = false
@@ -92,7 +93,8 @@ abbrev pub shiftRight : Bool → ℕ → ℕ → ℕ → ℕ
 shiftRight true n a k = arithDown n a k
 shiftRight false n a k = a / 2 ^ k
 
--- what a binary operation makes of two operands of n bytes; `left` says whether left's type is signed, `dest` whether dest's code is 1 or 3
+-- what a binary operation makes of two operands of n bytes, modulo 2^width; `left` says whether left's type is signed, `dest` whether dest's code is 1
+-- or 3; Div and Rem read both operands as unsigned; the logical pair makes nothing
 unfoldable pub binary : BinaryOp → Bool → Bool → ℕ → ℕ → ℕ → ℕ
 binary BinaryOp.Or left dest n a b = 0
 binary BinaryOp.And left dest n a b = 0
@@ -195,10 +197,14 @@ isDivision BinaryOp.Mul = false
 isDivision BinaryOp.Div = true
 isDivision BinaryOp.Rem = true
 
--- the operands are taken as they were; Div or Rem by zero changes nothing and ends F by a fault
+-- where an operation ends F by a fault: Div or Rem by zero
+abbrev pub fails : BinaryOp → ℕ → Bool
+fails op b = isDivision op && eqb b 0
+
+-- the operands are taken as they were; an operation that fails changes nothing
 abbrev pub execBinary : Function → VarId → BinaryOp → Operand → Operand → State → State
 execBinary F d op x y s =
-    cond (isDivision op && eqb (value y (s .vals)) 0) (ended faulted s)
+    cond (fails op (value y (s .vals))) (ended faulted s)
     (assign F d (binary op (isSigned x) (isSignedType (d .ty)) (width x) (value x (s .vals)) (value y (s .vals))) s)
 
 -- one instruction

@@ -1,6 +1,7 @@
--- Numbers as bytes. A byte is taken modulo 256 and an address modulo 2 ^ 64 wherever one is read, so no state needs a side condition.
+-- Believed: demands 2 and 3 rest on it. Numbers as bytes. A byte is taken modulo 256 and an address modulo 2 ^ 64 wherever one is read, so no
+-- state needs a side condition.
 use Prim.Native.Nat.{ℕ, zero, suc, _+_, _*_, _-_, _/_, _%_, _^_}
-use mathlib.Core.Bool.{Bool, cond}
+use mathlib.Core.Bool.{Bool, cond, not, Bool·beq}
 use lib.Dec.{ltb, leb, eqb}
 
 -- addresses and full registers are numbers below this
@@ -42,6 +43,18 @@ arithDown n a k = cond (sign n a) (invert n (invert n a / 2 ^ k)) (a / 2 ^ k)
 abbrev pub rank : ℕ → ℕ → ℕ
 rank n a = (a + bound n / 2) % bound n
 
+-- whether two signs are not the same
+abbrev pub differ : Bool → Bool → Bool
+differ a b = not (Bool·beq a b)
+
+-- how far a pattern of n bytes lies from 0
+abbrev pub magnitude : ℕ → ℕ → ℕ
+magnitude n a = cond (sign n a) (bound n - a) a
+
+-- the pattern of minus a, if b says so
+abbrev pub negated : Bool → ℕ → ℕ → ℕ
+negated b n a = cond b ((bound n - a) % bound n) a
+
 -- ---- bit by bit
 
 -- the k low bits of a and b, combined by f
@@ -49,6 +62,7 @@ unfoldable pub bitwise : (ℕ → ℕ → ℕ) → ℕ → ℕ → ℕ → ℕ
 bitwise f zero a b = 0
 bitwise f (suc k) a b = f (a % 2) (b % 2) + 2 * bitwise f k (a / 2) (b / 2)
 
+-- numbers of n bytes
 abbrev pub bitAnd : ℕ → ℕ → ℕ → ℕ
 bitAnd n a b = bitwise (λ x y. x * y) (8 * n) a b
 

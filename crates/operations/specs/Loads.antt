@@ -1,8 +1,8 @@
--- What the operations share: they are these at their registers and records, by the text of codegen's definitions.
-use mathlib.Core.List.{List, [], _∷_}
+-- Auxiliary: what an operation's look-ups find, and its records, made of that. `oneLoad` and codegen's `twoLoads` are these two, by `one-looked` and `two-looked` (proofs/Looked).
+use mathlib.Core.List.{List, [], _∷_, _++_}
 use Rattle.ir.specs.declared.VarId.{VarId}
 use Rattle.ir.specs.declared.Operand.{Operand as IrOp}
-use Rattle.ir.specs.Types.{Result, ok, _>>=_}
+use Rattle.ir.specs.Types.{Result, ok, refused, _>>=_}
 use Rattle.x86.specs.declared.register.Register.{Register}
 use Rattle.x86.specs.declared.enums.Size.{Size}
 use Rattle.x86.specs.declared.enums.Operand.{Operand}
@@ -12,8 +12,45 @@ use Rattle.x86.specs.Registers.{RAX, RCX}
 use Rattle.codegen.specs.Context.{Context}
 use Rattle.codegen.specs.Utils.{varSize, convertVar, convertOperand, loadOperand}
 use Rattle.codegen.specs.Instructions.{move}
+use Rattle.utils.specs.Sources.{sourceOf, loadOf}
+use Rattle.operations.specs.declared.Sides.{Sides}
+use Rattle.operations.specs.declared.SidesResult.{SidesResult}
 
--- left into a register, the operation on it and right, and its store to dest
+abbrev pub sidesSay : SidesResult → Result Sides
+sidesSay (SidesResult.Are t) = ok t
+sidesSay (SidesResult.Refused n) = refused n
+
+-- ---- look-ups, in the Rust's order
+
+-- where right is an operand of the operation itself
+abbrev pub lookOperand : Context → VarId → IrOp → IrOp → Result Sides
+lookOperand ctx dest left right = do
+  size ← varSize dest
+  x ← sourceOf ctx left
+  y ← convertOperand ctx right
+  var ← convertVar ctx dest
+  ok (record { left = x; right = y; var = var; size = size })
+
+-- where right is loaded too
+abbrev pub lookLoads : Context → VarId → IrOp → IrOp → Result Sides
+lookLoads ctx dest left right = do
+  size ← varSize dest
+  x ← sourceOf ctx left
+  y ← sourceOf ctx right
+  var ← convertVar ctx dest
+  ok (record { left = x; right = y; var = var; size = size })
+
+-- ---- records
+
+abbrev pub oneLoadOf : Register → BinOp → BinOp → Sides → List Instruction
+oneLoadOf reg op store t =
+    loadOf reg (t .left) (t .size) ∷ Instruction.Binary op (Operand.Reg reg) (t .right) (t .size) ∷ Instruction.Binary store (t .var) (Operand.Reg reg) (t .size) ∷ []
+
+abbrev pub twoLoadsOf : (Size → List Instruction) → Register → Sides → List Instruction
+twoLoadsOf operation result t =
+    loadOf RAX (t .left) (t .size) ∷ loadOf RCX (t .right) (t .size) ∷ operation (t .size) ++ move (t .var) (Operand.Reg result) (t .size) ∷ []
+
+-- left into a register, the operation on it and right, and its store to dest: codegen's `simpleOperation` and `floatOperation`, over the register and the store
 unfoldable pub oneLoad : Context → VarId → IrOp → IrOp → Register → BinOp → BinOp → Result (List Instruction)
 oneLoad ctx dest left right reg op store = do
   size ← varSize dest
@@ -21,11 +58,3 @@ oneLoad ctx dest left right reg op store = do
   src ← convertOperand ctx right
   var ← convertVar ctx dest
   ok (load ∷ Instruction.Binary op (Operand.Reg reg) src size ∷ Instruction.Binary store var (Operand.Reg reg) size ∷ [])
-
--- `twoLoads` behind dest's size, with one record on RAX and RCX
-unfoldable pub twoLoaded : Context → VarId → IrOp → IrOp → Size → Instruction → Result (List Instruction)
-twoLoaded ctx dest left right size i = do
-  a ← loadOperand ctx RAX left size
-  b ← loadOperand ctx RCX right size
-  var ← convertVar ctx dest
-  ok (a ∷ b ∷ i ∷ move var (Operand.Reg RAX) size ∷ [])

@@ -1,19 +1,14 @@
-// Krc's codegen/arithmetic.rs, the list makers of binary operations but comparisons.
-use instructions::binary;
-use instructions::mov;
-use ir::Operand as IrOp;
-use ir::VarId;
-use records::Records;
-use records::five;
-use records::four;
-use records::three;
-use utils::Loaded;
-use utils::Placed;
-use utils::Sized;
-use utils::convert_operand;
-use utils::convert_var;
-use utils::load_operand;
-use utils::var_size;
+// Krc's codegen/arithmetic.rs, binary operations that are no comparisons: their records, counted or written.
+use ir::read::type_at;
+use utils::CountResult;
+use utils::OperandResult;
+use utils::SizeResult;
+use utils::convert_operand_at;
+use utils::convert_var_at;
+use utils::mov;
+use utils::put_load;
+use utils::source_at;
+use utils::var_size_at;
 use x86::enums::BinOp;
 use x86::enums::ComplexBinOp;
 use x86::enums::Instruction;
@@ -21,43 +16,146 @@ use x86::enums::Operand;
 use x86::enums::ShiftOp;
 use x86::enums::Size;
 use x86::enums::UnaryOp;
+use x86::record::put_instruction;
 use x86::register::Register;
 ghost use mathlib.Core.Path.{_≡_};
-ghost use Rattle.x86.specs.Registers.{RCX};
-ghost use Rattle.codegen.specs.Arithmetic.{simpleOperation, floatOperation, signInto, division, multiplication, shift};
+ghost use Prim.Native.Nat.{_+_, _≤_};
+ghost use mathlib.Core.List.{[], _∷_};
+ghost use lib.ListN.{length};
+ghost use Rattle.cells.specs.Cells.{cells, write};
+ghost use Rattle.ir.specs.Function.{varAt, operandAt};
+ghost use Rattle.x86.specs.Registers.{RAX, RCX};
+ghost use Rattle.x86.specs.Records.{listBytes};
+ghost use Rattle.codegen.specs.Arithmetic.{simpleOperation, floatOperation, signInto, dividing, division, multiplication, shift};
 ghost use Rattle.utils.specs.Answers.{lent};
-ghost use Rattle.records.specs.Records.{recordsSay, encoded};
-ghost use Rattle.operations.specs.Loads.{oneLoad, twoLoaded};
+ghost use Rattle.utils.specs.Makes.{Makes, Ready};
+ghost use Rattle.operations.specs.Loads.{sidesSay, lookOperand, lookLoads, oneLoad, oneLoadOf, twoLoadsOf};
+
+// Left's source, right, dest's slot and dest's size.
+pub struct Sides {
+    pub left: Operand,
+    pub right: Operand,
+    pub var: Operand,
+    pub size: Size,
+}
+
+pub enum SidesResult {
+    Are(Sides),
+    Refused(u64),
+}
+
+// Where right is an operand of the operation itself.
+fn look_operand(tables: &[u8], offsets: &[u64], s: &[u8], k: usize) -> SidesResult
+    requires { ⌜ k + 13 ≤ cells (now s) ⌝ }
+    ensures { λ r. ⌜ sidesSay r ≡ lookOperand (lent (now (tables .entry)) (now (offsets .entry))) (varAt (now (s .entry)) (k + 2)) (operandAt (now (s .entry)) (k + 5)) (operandAt (now (s .entry)) (k + 9)) ⌝ }
+{
+    let size = match var_size_at(s, k + 2) {
+        SizeResult::Is(size) => size,
+        SizeResult::Refused(n) => return SidesResult::Refused(n),
+    };
+    let x = match source_at(tables, offsets, s, k + 5) {
+        OperandResult::Is(x) => x,
+        OperandResult::Refused(n) => return SidesResult::Refused(n),
+    };
+    let y = match convert_operand_at(tables, offsets, s, k + 9) {
+        OperandResult::Is(y) => y,
+        OperandResult::Refused(n) => return SidesResult::Refused(n),
+    };
+    match convert_var_at(tables, offsets, s, k + 2) {
+        OperandResult::Is(var) => SidesResult::Are(Sides {
+            left: x,
+            right: y,
+            var,
+            size,
+        }),
+        OperandResult::Refused(n) => SidesResult::Refused(n),
+    }
+}
+
+// Where right is loaded too.
+fn look_loads(tables: &[u8], offsets: &[u64], s: &[u8], k: usize) -> SidesResult
+    requires { ⌜ k + 13 ≤ cells (now s) ⌝ }
+    ensures { λ r. ⌜ sidesSay r ≡ lookLoads (lent (now (tables .entry)) (now (offsets .entry))) (varAt (now (s .entry)) (k + 2)) (operandAt (now (s .entry)) (k + 5)) (operandAt (now (s .entry)) (k + 9)) ⌝ }
+{
+    let size = match var_size_at(s, k + 2) {
+        SizeResult::Is(size) => size,
+        SizeResult::Refused(n) => return SidesResult::Refused(n),
+    };
+    let x = match source_at(tables, offsets, s, k + 5) {
+        OperandResult::Is(x) => x,
+        OperandResult::Refused(n) => return SidesResult::Refused(n),
+    };
+    let y = match source_at(tables, offsets, s, k + 9) {
+        OperandResult::Is(y) => y,
+        OperandResult::Refused(n) => return SidesResult::Refused(n),
+    };
+    match convert_var_at(tables, offsets, s, k + 2) {
+        OperandResult::Is(var) => SidesResult::Are(Sides {
+            left: x,
+            right: y,
+            var,
+            size,
+        }),
+        OperandResult::Refused(n) => SidesResult::Refused(n),
+    }
+}
+
+fn put_one_load(out: &mut [u8], at: usize, t: Sides, reg: Register, op: BinOp, store: BinOp)
+    requires { ⌜ at + 192 ≤ length (now out) ⌝ }
+    ensures { λ _. ⌜ now (out .exit) ≡ write (now (out .entry)) at (listBytes (oneLoadOf reg op store t)) ⌝ }
+{
+    let left = t.left;
+    let right = t.right;
+    let var = t.var;
+    let size = t.size;
+    put_load(out, at, reg, left, size);
+    put_instruction(
+        out,
+        at + 64,
+        Instruction::Binary {
+            op,
+            dst: Operand::Reg(reg),
+            src: right,
+            size,
+        },
+    );
+    put_instruction(
+        out,
+        at + 128,
+        Instruction::Binary {
+            op: store,
+            dst: var,
+            src: Operand::Reg(reg),
+            size,
+        },
+    );
+}
 
 // Left into a register, the operation on it and right, and its store to dest.
 fn one_load(
     tables: &[u8],
     offsets: &[u64],
-    dest: VarId,
-    left: IrOp,
-    right: IrOp,
+    s: &[u8],
+    k: usize,
     reg: Register,
     op: BinOp,
     store: BinOp,
-) -> Records
-    ensures { λ r. ⌜ recordsSay r ≡ encoded (oneLoad (lent (now (tables .entry)) (now (offsets .entry))) dest left right reg op store) ⌝ }
+    out: &mut [u8],
+    at: usize,
+    write: bool,
+) -> CountResult
+    requires { ⌜ k + 13 ≤ cells (now s) ⌝ }
+    requires { ⌜ Ready write (oneLoad (lent (now tables) (now offsets)) (varAt (now s) (k + 2)) (operandAt (now s) (k + 5)) (operandAt (now s) (k + 9)) reg op store) at (length (now out)) ⌝ }
+    ensures { λ r. ⌜ Makes write (oneLoad (lent (now (tables .entry)) (now (offsets .entry))) (varAt (now (s .entry)) (k + 2)) (operandAt (now (s .entry)) (k + 5)) (operandAt (now (s .entry)) (k + 9)) reg op store) at (now (out .entry)) (now (out .exit)) r ⌝ }
 {
-    let size = match var_size(dest) {
-        Sized::Is(size) => size,
-        Sized::Refused(n) => return Records::Refused(n),
-    };
-    let load = match load_operand(tables, offsets, reg, left, size) {
-        Loaded::Is(load) => load,
-        Loaded::Refused(n) => return Records::Refused(n),
-    };
-    let src = match convert_operand(tables, offsets, right) {
-        Placed::Is(src) => src,
-        Placed::Refused(n) => return Records::Refused(n),
-    };
-    let x = Operand::Reg(reg);
-    match convert_var(tables, offsets, dest) {
-        Placed::Is(var) => three(load, binary(op, x, src, size), binary(store, var, x, size)),
-        Placed::Refused(n) => Records::Refused(n),
+    match look_operand(tables, offsets, s, k) {
+        SidesResult::Are(t) => {
+            if write {
+                put_one_load(out, at, t, reg, op, store);
+            }
+            CountResult::Records(3)
+        }
+        SidesResult::Refused(n) => CountResult::Refused(n),
     }
 }
 
@@ -65,22 +163,28 @@ fn one_load(
 pub fn simple_operation(
     tables: &[u8],
     offsets: &[u64],
-    dest: VarId,
-    left: IrOp,
-    right: IrOp,
+    s: &[u8],
+    k: usize,
     op: BinOp,
-) -> Records
-    ensures { λ r. ⌜ recordsSay r ≡ encoded (simpleOperation (lent (now (tables .entry)) (now (offsets .entry))) dest left right op) ⌝ }
+    out: &mut [u8],
+    at: usize,
+    write: bool,
+) -> CountResult
+    requires { ⌜ k + 13 ≤ cells (now s) ⌝ }
+    requires { ⌜ Ready write (simpleOperation (lent (now tables) (now offsets)) (varAt (now s) (k + 2)) (operandAt (now s) (k + 5)) (operandAt (now s) (k + 9)) op) at (length (now out)) ⌝ }
+    ensures { λ r. ⌜ Makes write (simpleOperation (lent (now (tables .entry)) (now (offsets .entry))) (varAt (now (s .entry)) (k + 2)) (operandAt (now (s .entry)) (k + 5)) (operandAt (now (s .entry)) (k + 9)) op) at (now (out .entry)) (now (out .exit)) r ⌝ }
 {
     one_load(
         tables,
         offsets,
-        dest,
-        left,
-        right,
+        s,
+        k,
         Register::RAX,
         op,
         BinOp::Mov,
+        out,
+        at,
+        write,
     )
 }
 
@@ -88,22 +192,28 @@ pub fn simple_operation(
 pub fn float_operation(
     tables: &[u8],
     offsets: &[u64],
-    dest: VarId,
-    left: IrOp,
-    right: IrOp,
+    s: &[u8],
+    k: usize,
     op: BinOp,
-) -> Records
-    ensures { λ r. ⌜ recordsSay r ≡ encoded (floatOperation (lent (now (tables .entry)) (now (offsets .entry))) dest left right op) ⌝ }
+    out: &mut [u8],
+    at: usize,
+    write: bool,
+) -> CountResult
+    requires { ⌜ k + 13 ≤ cells (now s) ⌝ }
+    requires { ⌜ Ready write (floatOperation (lent (now tables) (now offsets)) (varAt (now s) (k + 2)) (operandAt (now s) (k + 5)) (operandAt (now s) (k + 9)) op) at (length (now out)) ⌝ }
+    ensures { λ r. ⌜ Makes write (floatOperation (lent (now (tables .entry)) (now (offsets .entry))) (varAt (now (s .entry)) (k + 2)) (operandAt (now (s .entry)) (k + 5)) (operandAt (now (s .entry)) (k + 9)) op) at (now (out .entry)) (now (out .exit)) r ⌝ }
 {
     one_load(
         tables,
         offsets,
-        dest,
-        left,
-        right,
+        s,
+        k,
         Register::XMM0,
         op,
         BinOp::StoreF,
+        out,
+        at,
+        write,
     )
 }
 
@@ -120,18 +230,8 @@ fn sign_into(size: Size) -> UnaryOp
     }
 }
 
-// RAX's sign, extended into RDX.
-fn sign_extended(size: Size) -> Instruction
-    ensures { λ r. ⌜ r ≡ Instruction.Unary (signInto size) Operand.NoOperand size ⌝ }
-{
-    Instruction::Unary {
-        op: sign_into(size),
-        dst: Operand::NoOperand,
-        size,
-    }
-}
-
-fn divided(op: ComplexBinOp, size: Size) -> Instruction
+// RDX and RAX divided by RCX.
+fn divide(op: ComplexBinOp, size: Size) -> Instruction
     ensures { λ r. ⌜ r ≡ Instruction.ComplexBinary op Operand.NoOperand (Operand.Reg RCX) size ⌝ }
 {
     Instruction::ComplexBinary {
@@ -142,90 +242,125 @@ fn divided(op: ComplexBinOp, size: Size) -> Instruction
     }
 }
 
-// The quotient comes in RAX, the remainder in RDX, which is cleared first for an unsigned dest.
+// RDX is cleared for an unsigned dest, else RAX's sign is extended into it.
+fn put_dividing(out: &mut [u8], at: usize, unsigned: bool, size: Size)
+    requires { ⌜ at + 128 ≤ length (now out) ⌝ }
+    ensures { λ _. ⌜ now (out .exit) ≡ write (now (out .entry)) at (listBytes (dividing unsigned size)) ⌝ }
+{
+    let rdx = Operand::Reg(Register::RDX);
+    if unsigned {
+        put_instruction(
+            out,
+            at,
+            Instruction::Binary {
+                op: BinOp::Xor,
+                dst: rdx,
+                src: rdx,
+                size,
+            },
+        );
+        put_instruction(out, at + 64, divide(ComplexBinOp::Div, size));
+    } else {
+        put_instruction(
+            out,
+            at,
+            Instruction::Unary {
+                op: sign_into(size),
+                dst: Operand::NoOperand,
+                size,
+            },
+        );
+        put_instruction(out, at + 64, divide(ComplexBinOp::Idiv, size));
+    }
+}
+
+fn put_division(out: &mut [u8], at: usize, t: Sides, unsigned: bool, result: Register)
+    requires { ⌜ at + 320 ≤ length (now out) ⌝ }
+    ensures { λ _. ⌜ now (out .exit) ≡ write (now (out .entry)) at (listBytes (twoLoadsOf (dividing unsigned) result t)) ⌝ }
+{
+    let left = t.left;
+    let right = t.right;
+    let var = t.var;
+    let size = t.size;
+    put_load(out, at, Register::RAX, left, size);
+    put_load(out, at + 64, Register::RCX, right, size);
+    put_dividing(out, at + 128, unsigned, size);
+    put_instruction(out, at + 256, mov(var, Operand::Reg(result), size));
+}
+
+// The quotient comes in RAX, the remainder in RDX.
 pub fn division(
     tables: &[u8],
     offsets: &[u64],
-    dest: VarId,
-    left: IrOp,
-    right: IrOp,
+    s: &[u8],
+    k: usize,
     result: Register,
-) -> Records
-    ensures { λ r. ⌜ recordsSay r ≡ encoded (division (lent (now (tables .entry)) (now (offsets .entry))) dest left right result) ⌝ }
+    out: &mut [u8],
+    at: usize,
+    write: bool,
+) -> CountResult
+    requires { ⌜ k + 13 ≤ cells (now s) ⌝ }
+    requires { ⌜ Ready write (division (lent (now tables) (now offsets)) (varAt (now s) (k + 2)) (operandAt (now s) (k + 5)) (operandAt (now s) (k + 9)) result) at (length (now out)) ⌝ }
+    ensures { λ r. ⌜ Makes write (division (lent (now (tables .entry)) (now (offsets .entry))) (varAt (now (s .entry)) (k + 2)) (operandAt (now (s .entry)) (k + 5)) (operandAt (now (s .entry)) (k + 9)) result) at (now (out .entry)) (now (out .exit)) r ⌝ }
 {
-    let size = match var_size(dest) {
-        Sized::Is(size) => size,
-        Sized::Refused(n) => return Records::Refused(n),
-    };
-    let a = match load_operand(tables, offsets, Register::RAX, left, size) {
-        Loaded::Is(a) => a,
-        Loaded::Refused(n) => return Records::Refused(n),
-    };
-    let b = match load_operand(tables, offsets, Register::RCX, right, size) {
-        Loaded::Is(b) => b,
-        Loaded::Refused(n) => return Records::Refused(n),
-    };
-    let store = match convert_var(tables, offsets, dest) {
-        Placed::Is(var) => mov(var, Operand::Reg(result), size),
-        Placed::Refused(n) => return Records::Refused(n),
-    };
-    let rdx = Operand::Reg(Register::RDX);
-    let ty = dest.ty;
-    if ty.is_unsigned() {
-        let clear = binary(BinOp::Xor, rdx, rdx, size);
-        return five(a, b, clear, divided(ComplexBinOp::Div, size), store);
-    }
-    let extend = sign_extended(size);
-    five(a, b, extend, divided(ComplexBinOp::Idiv, size), store)
-}
-
-// Left in RAX, right in RCX, a record on the two, and RAX's store to dest, of so many bytes.
-fn two_loads(
-    tables: &[u8],
-    offsets: &[u64],
-    dest: VarId,
-    left: IrOp,
-    right: IrOp,
-    size: Size,
-    i: Instruction,
-) -> Records
-    ensures { λ r. ⌜ recordsSay r ≡ encoded (twoLoaded (lent (now (tables .entry)) (now (offsets .entry))) dest left right size i) ⌝ }
-{
-    let a = match load_operand(tables, offsets, Register::RAX, left, size) {
-        Loaded::Is(a) => a,
-        Loaded::Refused(n) => return Records::Refused(n),
-    };
-    let b = match load_operand(tables, offsets, Register::RCX, right, size) {
-        Loaded::Is(b) => b,
-        Loaded::Refused(n) => return Records::Refused(n),
-    };
-    match convert_var(tables, offsets, dest) {
-        Placed::Is(var) => four(a, b, i, mov(var, Operand::Reg(Register::RAX), size)),
-        Placed::Refused(n) => Records::Refused(n),
+    let ty = type_at(s, k + 3);
+    match look_loads(tables, offsets, s, k) {
+        SidesResult::Are(t) => {
+            if write {
+                put_division(out, at, t, ty.is_unsigned(), result);
+            }
+            CountResult::Records(5)
+        }
+        SidesResult::Refused(n) => CountResult::Refused(n),
     }
 }
 
-// `imul r, r/m` takes no constant, so right goes through RCX.
+fn put_two_loads(out: &mut [u8], at: usize, t: Sides, i: Instruction)
+    requires { ⌜ at + 256 ≤ length (now out) ⌝ }
+    ensures { λ _. ⌜ now (out .exit) ≡ write (now (out .entry)) at (listBytes (twoLoadsOf (λ size. i ∷ []) RAX t)) ⌝ }
+{
+    let left = t.left;
+    let right = t.right;
+    let var = t.var;
+    let size = t.size;
+    put_load(out, at, Register::RAX, left, size);
+    put_load(out, at + 64, Register::RCX, right, size);
+    put_instruction(out, at + 128, i);
+    put_instruction(out, at + 192, mov(var, Operand::Reg(Register::RAX), size));
+}
+
 pub fn multiplication(
     tables: &[u8],
     offsets: &[u64],
-    dest: VarId,
-    left: IrOp,
-    right: IrOp,
-) -> Records
-    ensures { λ r. ⌜ recordsSay r ≡ encoded (multiplication (lent (now (tables .entry)) (now (offsets .entry))) dest left right) ⌝ }
+    s: &[u8],
+    k: usize,
+    out: &mut [u8],
+    at: usize,
+    write: bool,
+) -> CountResult
+    requires { ⌜ k + 13 ≤ cells (now s) ⌝ }
+    requires { ⌜ Ready write (multiplication (lent (now tables) (now offsets)) (varAt (now s) (k + 2)) (operandAt (now s) (k + 5)) (operandAt (now s) (k + 9))) at (length (now out)) ⌝ }
+    ensures { λ r. ⌜ Makes write (multiplication (lent (now (tables .entry)) (now (offsets .entry))) (varAt (now (s .entry)) (k + 2)) (operandAt (now (s .entry)) (k + 5)) (operandAt (now (s .entry)) (k + 9))) at (now (out .entry)) (now (out .exit)) r ⌝ }
 {
-    match var_size(dest) {
-        Sized::Is(size) => {
-            let multiply = Instruction::ComplexBinary {
-                op: ComplexBinOp::Imul,
-                dst: Operand::Reg(Register::RAX),
-                src: Operand::Reg(Register::RCX),
-                size,
-            };
-            two_loads(tables, offsets, dest, left, right, size, multiply)
+    match look_loads(tables, offsets, s, k) {
+        SidesResult::Are(t) => {
+            if write {
+                let size = t.size;
+                put_two_loads(
+                    out,
+                    at,
+                    t,
+                    Instruction::ComplexBinary {
+                        op: ComplexBinOp::Imul,
+                        dst: Operand::Reg(Register::RAX),
+                        src: Operand::Reg(Register::RCX),
+                        size,
+                    },
+                );
+            }
+            CountResult::Records(4)
         }
-        Sized::Refused(n) => Records::Refused(n),
+        SidesResult::Refused(n) => CountResult::Refused(n),
     }
 }
 
@@ -233,23 +368,35 @@ pub fn multiplication(
 pub fn shift(
     tables: &[u8],
     offsets: &[u64],
-    dest: VarId,
-    left: IrOp,
-    right: IrOp,
+    s: &[u8],
+    k: usize,
     op: ShiftOp,
-) -> Records
-    ensures { λ r. ⌜ recordsSay r ≡ encoded (shift (lent (now (tables .entry)) (now (offsets .entry))) dest left right op) ⌝ }
+    out: &mut [u8],
+    at: usize,
+    write: bool,
+) -> CountResult
+    requires { ⌜ k + 13 ≤ cells (now s) ⌝ }
+    requires { ⌜ Ready write (shift (lent (now tables) (now offsets)) (varAt (now s) (k + 2)) (operandAt (now s) (k + 5)) (operandAt (now s) (k + 9)) op) at (length (now out)) ⌝ }
+    ensures { λ r. ⌜ Makes write (shift (lent (now (tables .entry)) (now (offsets .entry))) (varAt (now (s .entry)) (k + 2)) (operandAt (now (s .entry)) (k + 5)) (operandAt (now (s .entry)) (k + 9)) op) at (now (out .entry)) (now (out .exit)) r ⌝ }
 {
-    match var_size(dest) {
-        Sized::Is(size) => {
-            let moved = Instruction::Shift {
-                op,
-                dst: Operand::Reg(Register::RAX),
-                src: Operand::Reg(Register::RCX),
-                size,
-            };
-            two_loads(tables, offsets, dest, left, right, size, moved)
+    match look_loads(tables, offsets, s, k) {
+        SidesResult::Are(t) => {
+            if write {
+                let size = t.size;
+                put_two_loads(
+                    out,
+                    at,
+                    t,
+                    Instruction::Shift {
+                        op,
+                        dst: Operand::Reg(Register::RAX),
+                        src: Operand::Reg(Register::RCX),
+                        size,
+                    },
+                );
+            }
+            CountResult::Records(4)
         }
-        Sized::Refused(n) => Records::Refused(n),
+        SidesResult::Refused(n) => CountResult::Refused(n),
     }
 }

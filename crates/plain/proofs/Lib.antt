@@ -1,5 +1,4 @@
 pub mod Named
 pub mod Verdict
-pub mod Late
-pub mod Early
 pub mod Counts
+pub mod IsPlain

@@ -16,10 +16,9 @@ use Rattle.machine.specs.Plain.{isPlainHead, isPlainInstr, isPlainLine, isPlain
 use Rattle.conditions.specs.declared.Plainness.{Plainness}
 use Rattle.layout.specs.Layout.{Laid}
 use Rattle.conditions.specs.Parts.{areNamed, firstFault, verdict}
-use Rattle.plain.specs.Answers.{Says, faultOf}
+use Rattle.plain.specs.Answers.{Named, faultOf}
 use Rattle.machine.proofs.Accepted.{never}
-use Rattle.plain.proofs.Early.{sheet-refused, tables-refused}
-use Rattle.plain.proofs.Late.{refused-late}
+use Rattle.codegen.proofs.Refusals.{tables-off, sheet-off, four-to-eight}
 use Rattle.plain.proofs.Named.{accepted-named}
 
 yes-not-no : {A : Type 0} {k : ℕ} → Plainness.No k ≡ Plainness.Yes → A
@@ -80,12 +79,12 @@ fault-there F m e = go (isPlainHead F) refl e
 
 module _ (t s : List ℕ) where
   -- tables or sheet off the layout
-  pub tables-fault : {n cell : ℕ} → tablesCheck t ≡ Checked.Refused n cell → Says t s (Plainness.No 0)
+  pub tables-fault : {n cell : ℕ} → tablesCheck t ≡ Checked.Refused n cell → Named t s (Plainness.No 0)
   unfolding isFault
   tables-fault e = rw e
 
   module _ {c : Cursor} (a : tablesCheck t ≡ Checked.Behind c) where
-    pub sheet-fault : {n cell : ℕ} → sheetCheck s ≡ Checked.Refused n cell → Says t s (Plainness.No 0)
+    pub sheet-fault : {n cell : ℕ} → sheetCheck s ≡ Checked.Refused n cell → Named t s (Plainness.No 0)
     unfolding isFault
     sheet-fault e = rw (a, e)
 
@@ -99,7 +98,7 @@ module _ (t s : List ℕ) where
       generated-is = rw (a, b)
 
       -- a refusal of the lowering is a fault at its place
-      pub refused-there : (n place : ℕ) → generate (tablesOf t) (functionOf s) ≡ refused n place → Says t s (Plainness.No place)
+      pub refused-there : (n place : ℕ) → generate (tablesOf t) (functionOf s) ≡ refused n place → Named t s (Plainness.No place)
       refused-there n place e = fault-is place ∙ rw e (rw (eq-eqb place place refl) (or-true (not (isPlainAt (functionOf s) place))))
         where
           or-true : (x : Bool) → (x || true) ≡ true
@@ -114,7 +113,7 @@ module _ (t s : List ℕ) where
         pub sheet-named : areNamed (functionOf s .body) ≡ true
         sheet-named = accepted-named (tablesOf t) (functionOf s) is e few-labels
 
-        pub answered : (r : Plainness) → r ≡ verdict (functionOf s) → Says t s r
+        pub answered : (r : Plainness) → r ≡ verdict (functionOf s) → Named t s r
         answered Plainness.Yes h = record { faultless = λ k. fault-is k ∙ rw (plain-everywhere (functionOf s) (sym h) k, e) }
         answered (Plainness.No k) h = fault-is k ∙ rw (fault-there (functionOf s) k (sym h))
 
@@ -142,7 +141,7 @@ module _ (t s : List ℕ) where
       pub accepted-labels : areNamed (functionOf s .body) ≡ true
       accepted-labels = let p = compiled-accepted e in sheet-named (p .1) (p .3) is (p .4)
 
-      pub accepted-says : (r : Plainness) → r ≡ verdict (functionOf s) → Says t s r
+      pub accepted-says : (r : Plainness) → r ≡ verdict (functionOf s) → Named t s r
       accepted-says = let p = compiled-accepted e in answered (p .1) (p .3) is (p .4)
 
   module _ {n place : ℕ} where
@@ -150,18 +149,18 @@ module _ (t s : List ℕ) where
     same-refusal e = cc
 
     -- refusals 1 to 3 give 0, the others their place
-    pub refused-says : compiled t s ≡ refused n place → Says t s (Plainness.No (faultOf n place))
+    pub refused-says : compiled t s ≡ refused n place → Named t s (Plainness.No (faultOf n place))
     unfolding compiled
     refused-says e = go (tablesCheck t) refl (sheetCheck s) refl e
       where
-        early : n ≤ 3 → Says t s (Plainness.No 0) → Says t s (Plainness.No (faultOf n place))
+        early : n ≤ 3 → Named t s (Plainness.No 0) → Named t s (Plainness.No (faultOf n place))
         early h x = rw (lt-ltb n 4 (omega arith)) x
 
-        late : 4 ≤ n → Says t s (Plainness.No place) → Says t s (Plainness.No (faultOf n place))
+        late : 4 ≤ n → Named t s (Plainness.No place) → Named t s (Plainness.No (faultOf n place))
         late h x = rw (le-ltb n 4 h) x
 
         go : (a : Checked) → tablesCheck t ≡ a → (b : Checked) → sheetCheck s ≡ b →
-            checked a (λ u. checked b (λ v. generate (tablesOf t) (functionOf s))) ≡ refused n place → Says t s (Plainness.No (faultOf n place))
-        go (Checked.Refused m k) p b q e = let l : m ≡ n = same-refusal e in early (omega (arith, tables-refused t p)) (tables-fault p)
-        go (Checked.Behind c) p (Checked.Refused m k) q e = let l : m ≡ n = same-refusal e in early (omega (arith, sheet-refused s q)) (sheet-fault p q)
-        go (Checked.Behind c) p (Checked.Behind d) q e = late (refused-late (tablesOf t) (functionOf s) n place e) (refused-there p q n place e)
+            checked a (λ u. checked b (λ v. generate (tablesOf t) (functionOf s))) ≡ refused n place → Named t s (Plainness.No (faultOf n place))
+        go (Checked.Refused m k) p b q e = let l : m ≡ n = same-refusal e in let (a, b) = tables-off t .of m k p in early (omega arith) (tables-fault p)
+        go (Checked.Behind c) p (Checked.Refused m k) q e = let l : m ≡ n = same-refusal e in let (a, b) = sheet-off s .of m k q in early (omega arith) (sheet-fault p q)
+        go (Checked.Behind c) p (Checked.Behind d) q e = late (four-to-eight (tablesOf t) (functionOf s) .of n place e .0) (refused-there p q n place e)

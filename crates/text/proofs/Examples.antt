@@ -1,9 +1,9 @@
 -- Texts that the checker evaluates: numbers at their edges, and a line of 01's listing (01, "The listing program").
-use Prim.Native.Nat.{ℕ, _^_, _-_}
+use Prim.Native.Nat.{_^_, _-_}
 use mathlib.Core.Path.{_≡_, refl}
-use mathlib.Core.List.{List, [], _∷_, _++_}
-use Rattle.cells.specs.Cells.{bytesOf, half, word, minus}
-use Rattle.text.specs.Text.{digits, decimal, signed, cellsLine, recordLine, okLine, refusedLine}
+use mathlib.Core.List.{[], _∷_}
+use Rattle.cells.specs.Cells.{minus}
+use Rattle.text.specs.Text.{digits, decimal, signed, numbersLine, okLine, refusedLine}
 
 -- `0`
 zero-text : decimal 0 ≡ 48 ∷ []
@@ -22,11 +22,9 @@ unfolding digits signed
 least-text = refl
 
 -- `0 0 5 -4 1 7 4 0`, the fourth record of 01's listing
-fourth : List ℕ
-fourth = bytesOf 0 ++ bytesOf 0 ++ bytesOf 5 ++ bytesOf (minus 4) ++ bytesOf 1 ++ bytesOf 7 ++ bytesOf 4 ++ bytesOf 0
-
-fourth-line : recordLine fourth 0 ≡ 48 ∷ 32 ∷ 48 ∷ 32 ∷ 53 ∷ 32 ∷ 45 ∷ 52 ∷ 32 ∷ 49 ∷ 32 ∷ 55 ∷ 32 ∷ 52 ∷ 32 ∷ 48 ∷ 10 ∷ []
-unfolding digits signed cellsLine recordLine bytesOf half word fourth
+fourth-line : numbersLine (0 ∷ 0 ∷ 5 ∷ minus 4 ∷ 1 ∷ 7 ∷ 4 ∷ 0 ∷ []) ≡
+    48 ∷ 32 ∷ 48 ∷ 32 ∷ 53 ∷ 32 ∷ 45 ∷ 52 ∷ 32 ∷ 49 ∷ 32 ∷ 55 ∷ 32 ∷ 52 ∷ 32 ∷ 48 ∷ 10 ∷ []
+unfolding digits signed numbersLine
 fourth-line = refl
 
 -- `ok 8` and `refused 9 1027`

@@ -1,4 +1,4 @@
--- The parts of the listing program's input (01, "The listing program").
+-- Believed: the parts of the listing program's input (01, "The listing program").
 use Prim.Native.Nat.{ℕ, _+_, _*_}
 use mathlib.Core.List.{List}
 use mathlib.Core.Bool.{cond}

@@ -1,11 +1,11 @@
--- The text that the listing program writes, as ASCII codes (01, "The listing program").
-use Prim.Native.Nat.{ℕ, zero, suc, _+_, _*_, _-_, _/_, _%_, _^_, _≤_}
+-- Believed: the lines of the listing program's text, as ASCII codes (01, "The listing program").
+use Prim.Native.Nat.{ℕ, zero, suc, _+_, _-_, _/_, _%_, _^_, _≤_}
 use mathlib.Core.List.{List, [], _∷_, _++_}
 use mathlib.Core.Bool.{cond}
 use lib.Dec.{ltb, eqb}
 use mathlib.Core.Path.{_≡_}
 use lib.ListN.{length, take}
-use Rattle.cells.specs.Cells.{cellAt, write}
+use Rattle.cells.specs.Cells.{write}
 
 -- a number in decimal, the highest digit first, in at most k digits: 48 is `0` (01, "The listing program": "numbers")
 unfoldable pub digits : ℕ → ℕ → List ℕ
@@ -20,14 +20,10 @@ decimal n = digits 20 n
 unfoldable pub signed : ℕ → List ℕ
 signed v = cond (ltb v (2 ^ 63)) (decimal v) (45 ∷ decimal (2 ^ 64 - v))
 
--- n cells from cell k on, a blank (32) behind each but the last, and a new line (10) behind that (01, "The listing program": "eight numbers")
-unfoldable pub cellsLine : List ℕ → ℕ → ℕ → List ℕ
-cellsLine bs k zero = []
-cellsLine bs k (suc n) = signed (cellAt bs k) ++ (cond (eqb n 0) 10 32 ∷ cellsLine bs (k + 1) n)
-
--- the line of record k, from 0 (01, "The listing program": "one line of eight numbers a record")
-unfoldable pub recordLine : List ℕ → ℕ → List ℕ
-recordLine bs k = cellsLine bs (k * 8) 8
+-- numbers as cells have them, a blank (32) behind each but the last, and a new line (10) behind that (01, "The listing program": "eight numbers")
+unfoldable pub numbersLine : List ℕ → List ℕ
+numbersLine [] = []
+numbersLine (v ∷ vs) = signed (v % 2 ^ 64) ++ (cond (eqb (length vs) 0) 10 32 ∷ numbersLine vs)
 
 -- `ok ` (01, "The listing program")
 abbrev pub okWord : List ℕ
@@ -44,6 +40,10 @@ refusedWord = 114 ∷ 101 ∷ 102 ∷ 117 ∷ 115 ∷ 101 ∷ 100 ∷ 32 ∷ []
 -- `refused `, number and place (01, "The listing program")
 unfoldable pub refusedLine : ℕ → ℕ → List ℕ
 refusedLine n place = refusedWord ++ (decimal n ++ (32 ∷ (decimal place ++ (10 ∷ []))))
+
+-- `too long` (01, "The listing program")
+abbrev pub tooLongLine : List ℕ
+tooLongLine = 116 ∷ 111 ∷ 111 ∷ 32 ∷ 108 ∷ 111 ∷ 110 ∷ 103 ∷ 10 ∷ []
 
 -- the text bs stands in the list from `at` on, the rest of the list is as it was, and r is the place behind bs
 pub record Put (before : List ℕ) (at : ℕ) (bs : List ℕ) (r : ℕ) (after : List ℕ) : Type 0 where

@@ -1,15 +1,16 @@
-// The text of the listing program: numbers, cells and lines, written into a lent line. A line of 192 bytes holds every line.
+// The text of the listing program: numbers, cells and lines, written into lent bytes.
 pub mod input;
 
 use cells::cell_at;
 ghost use mathlib.Core.Path.{_≡_};
 ghost use mathlib.Core.Bool.{cond};
-ghost use mathlib.Core.List.{[], _∷_};
+ghost use mathlib.Core.List.{[], _∷_, _++_};
 ghost use Prim.Native.Nat.{_+_, _*_, _/_, _≤_, _<_};
 ghost use lib.Dec.{eqb};
 ghost use lib.ListN.{length};
 ghost use Rattle.cells.specs.Cells.{cells};
-ghost use Rattle.text.specs.Text.{digits, signed, cellsLine, recordLine, okLine, refusedLine, okWord, refusedWord, Put, Counts};
+ghost use Rattle.text.specs.Text.{digits, signed, okLine, refusedLine, tooLongLine, Put};
+ghost use Rattle.text.specs.Records.{cellsLine, recordsText};
 
 // One byte at a place; the answer is the place behind it.
 fn put_byte(out: &mut [u8], at: usize, b: u8) -> usize
@@ -18,6 +19,18 @@ fn put_byte(out: &mut [u8], at: usize, b: u8) -> usize
 {
     out[at] = b;
     at + 1
+}
+
+// Bytes from the start of `out` on; the answer is the place behind them.
+fn put_word(out: &mut [u8], bytes: &[u8]) -> usize
+    requires { ⌜ length (now bytes) ≤ length (now out) ⌝ }
+    ensures { λ r. ⌜ Put (now (out .entry)) 0 (now (bytes .entry)) r (now (out .exit)) ⌝ }
+{
+    let mut k = 0;
+    while k < bytes.len() {
+        k = put_byte(out, k, bytes[k]);
+    }
+    k
 }
 
 // The digit of a number below ten.
@@ -76,58 +89,59 @@ fn put_cells(records: &[u8], k: usize, n: usize, out: &mut [u8], at: usize) -> u
     put_cells(records, k + 1, n - 1, out, behind)
 }
 
-// The line of record k at the start of `line`; the answer is the line's length.
-pub fn record_line(records: &[u8], k: usize, line: &mut [u8; 192]) -> usize
-    requires { ⌜ k < length (now records) / 64 ⌝ }
-    ensures { λ r. ⌜ Put (now (line .entry)) 0 (recordLine (now (records .entry)) k) r (now (line .exit)) ⌝ }
-    ensures { λ r. ⌜ Counts r (now (line .exit)) ⌝ }
+// The lines of the first n records, from `at` on. Behind them there is room for a line of the longest numbers.
+fn put_records(records: &[u8], n: usize, out: &mut [u8], at: usize) -> usize
+    requires { ⌜ n ≤ length (now records) / 64 ⌝ }
+    requires { ⌜ at + length (recordsText (now records) n) + 176 ≤ length (now out) ⌝ }
+    ensures { λ r. ⌜ Put (now (out .entry)) at (recordsText (now (records .entry)) n) r (now (out .exit)) ⌝ }
 {
-    put_cells(records, k * 8, 8, line, 0)
+    let mut k: usize = 0;
+    let mut end = at;
+    while k < n {
+        let first = k * 8;
+        end = put_cells(records, first, 8, out, end);
+        k += 1;
+    }
+    end
 }
 
-fn put_ok(line: &mut [u8]) -> usize
-    requires { ⌜ 3 ≤ length (now line) ⌝ }
-    ensures { λ r. ⌜ Put (now (line .entry)) 0 okWord r (now (line .exit)) ⌝ }
+// The line that opens an accepted sheet's text, with the count of its records; the answer is the place behind it.
+fn put_ok(n: u64, out: &mut [u8]) -> usize
+    requires { ⌜ 24 ≤ length (now out) ⌝ }
+    ensures { λ r. ⌜ Put (now (out .entry)) 0 (okLine n) r (now (out .exit)) ⌝ }
 {
-    line[0] = b'o';
-    line[1] = b'k';
-    line[2] = b' ';
-    3
+    let number = put_word(out, b"ok ");
+    let end = put_digits(out, number, 20, n);
+    put_byte(out, end, b'\n')
 }
 
-fn put_refused(line: &mut [u8]) -> usize
-    requires { ⌜ 8 ≤ length (now line) ⌝ }
-    ensures { λ r. ⌜ Put (now (line .entry)) 0 refusedWord r (now (line .exit)) ⌝ }
+// The text of an accepted sheet at the start of `out`, for the first n records of the record bytes; the answer is its length.
+// There is room for a first line of 24 bytes, which no count passes, for the records' lines, and for a line of the longest numbers.
+pub fn ok_text(n: usize, records: &[u8], out: &mut [u8]) -> usize
+    requires { ⌜ n ≤ length (now records) / 64 ⌝ }
+    requires { ⌜ 24 + length (recordsText (now records) n) + 176 ≤ length (now out) ⌝ }
+    ensures { λ r. ⌜ Put (now (out .entry)) 0 (okLine n ++ recordsText (now (records .entry)) n) r (now (out .exit)) ⌝ }
 {
-    line[0] = b'r';
-    line[1] = b'e';
-    line[2] = b'f';
-    line[3] = b'u';
-    line[4] = b's';
-    line[5] = b'e';
-    line[6] = b'd';
-    line[7] = b' ';
-    8
+    let end = put_ok(n as u64, out);
+    put_records(records, n, out, end)
 }
 
-// The first line of an accepted sheet's text, with the count of its records; the answer is the line's length.
-pub fn ok_line(n: u64, line: &mut [u8; 192]) -> usize
-    ensures { λ r. ⌜ Put (now (line .entry)) 0 (okLine n) r (now (line .exit)) ⌝ }
-    ensures { λ r. ⌜ Counts r (now (line .exit)) ⌝ }
+// The text of a refusal at the start of `out`, with its number and place; the answer is its length.
+pub fn refused_text(n: u64, place: u64, out: &mut [u8]) -> usize
+    requires { ⌜ 50 ≤ length (now out) ⌝ }
+    ensures { λ r. ⌜ Put (now (out .entry)) 0 (refusedLine n place) r (now (out .exit)) ⌝ }
 {
-    let number = put_ok(line);
-    let end = put_digits(line, number, 20, n);
-    put_byte(line, end, b'\n')
+    let number = put_word(out, b"refused ");
+    let blank = put_digits(out, number, 20, n);
+    let second = put_byte(out, blank, b' ');
+    let end = put_digits(out, second, 20, place);
+    put_byte(out, end, b'\n')
 }
 
-// The line of a refusal, with its number and place; the answer is the line's length.
-pub fn refused_line(n: u64, place: u64, line: &mut [u8; 192]) -> usize
-    ensures { λ r. ⌜ Put (now (line .entry)) 0 (refusedLine n place) r (now (line .exit)) ⌝ }
-    ensures { λ r. ⌜ Counts r (now (line .exit)) ⌝ }
+// The text of an input that is too long at the start of `out`; the answer is its length.
+pub fn too_long_text(out: &mut [u8]) -> usize
+    requires { ⌜ 9 ≤ length (now out) ⌝ }
+    ensures { λ r. ⌜ Put (now (out .entry)) 0 tooLongLine r (now (out .exit)) ⌝ }
 {
-    let number = put_refused(line);
-    let blank = put_digits(line, number, 20, n);
-    let second = put_byte(line, blank, b' ');
-    let end = put_digits(line, second, 20, place);
-    put_byte(line, end, b'\n')
+    put_word(out, b"too long\n")
 }

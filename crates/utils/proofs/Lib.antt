@@ -1,3 +1,4 @@
 pub mod Rest
-pub mod Emitted
-pub mod Parts
+pub mod Ranks
+pub mod Sources
+pub mod Made

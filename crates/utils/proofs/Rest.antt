@@ -8,15 +8,11 @@ use native.Mathlib.Omega.{arith}
 use borrow.Author.Tests.{ne-eqb, le-ltb}
 use denote.Enum.Declared.{tagOf}
 use types.Run.{OneOf, miss}
-use Rattle.ir.proofs.Operand as irOperand
-use Rattle.ir.specs.declared.Operand.{Operand as IrOp}
 use Rattle.ir.specs.Types.{ok, refused, _>>=_}
 use Rattle.x86.proofs.enums.Operand as elfOperand
 use Rattle.x86.specs.declared.enums.Operand.{Operand}
 use Rattle.codegen.specs.Context.{Context, floatAt, floatShort}
-use Rattle.x86.specs.declared.enums.Size.{Size}
-use Rattle.x86.specs.declared.register.Register.{Register}
-use Rattle.codegen.specs.Utils.{sizeFrom, isConstant, loadValue, loadOperand}
+use Rattle.codegen.specs.Utils.{sizeFrom, isConstant}
 
 pub odd-width : (n : ℕ) → (n ≡ 1 → ⊥) → (n ≡ 2 → ⊥) → (n ≡ 4 → ⊥) → (n ≡ 8 → ⊥) → refused 6 ≡ sizeFrom n
 unfolding sizeFrom
@@ -29,18 +25,6 @@ not-constant (Operand.Imm n) h = absurd (miss (0 ∷ 1 ∷ 3 ∷ 4 ∷ 5 ∷ [])
 not-constant (Operand.Sym n) h = refl
 not-constant (Operand.Label n) h = refl
 not-constant (Operand.MemoryAddress a) h = refl
-
--- of an operand that is no string's address
-pub not-data : (ctx : Context) (reg : Register) (x : IrOp) (size : Size) → OneOf (0 ∷ 1 ∷ 2 ∷ 3 ∷ 4 ∷ 6 ∷ []) (tagOf irOperand.the-type x)
-    → loadValue ctx reg x size ≡ loadOperand ctx reg x size
-unfolding loadOperand
-not-data ctx reg (IrOp.Var v) size h = refl
-not-data ctx reg (IrOp.Int n s u) size h = refl
-not-data ctx reg (IrOp.Float k) size h = refl
-not-data ctx reg (IrOp.Bool b) size h = refl
-not-data ctx reg (IrOp.Address v) size h = refl
-not-data ctx reg (IrOp.DataAddress k) size h = absurd (miss (0 ∷ 1 ∷ 2 ∷ 3 ∷ 4 ∷ 6 ∷ []) 5 tt h)
-not-data ctx reg IrOp.Null size h = refl
 
 pub no-floats : (id len : ℕ) → len / 8 ≤ 0 → ltb id (len / 8 - 1) ≡ false
 no-floats id len h = le-ltb id (len / 8 - 1) (omega arith)

@@ -1,2 +1,4 @@
 pub mod Answers
-pub mod Parts
+pub mod Kinds
+pub mod Sources
+pub mod Makes

@@ -1,10 +1,15 @@
 // Krc's codegen/utils.rs, with `convert_operand` of instructions.rs, which it uses. `tables` and `offsets` are what Krc's `Context` holds: the tables'
 // cells, and each variable's offset under RBP.
 //
-// A maker of records makes its look-ups in the Rust's order and then writes its records from `at` on, if the lent slice has room for all of them.
-// So a slice without room has them counted and not written.
+// A maker of records makes its look-ups in the Rust's order. Then, where it is to write, it puts its records one by one into the lent slice, each as an
+// `Instruction`. It answers how many they are, written or not, or the number of a refusal. So the pass that counts and the pass that writes are one.
+pub mod kinds;
+pub mod registers;
+
 use ir::Operand as IrOp;
 use ir::VarId;
+use ir::read::operand_at;
+use ir::read::var_at;
 use ir::types::Number;
 use x86::enums::BinOp;
 use x86::enums::ExtendOp;
@@ -13,68 +18,64 @@ use x86::enums::Operand;
 use x86::enums::Size;
 use x86::mem_address::Base;
 use x86::mem_address::MemAddress;
+use x86::record::put_instruction;
+use x86::record::put_other;
 use x86::register::Register;
 ghost use mathlib.Core.Path.{_≡_};
-ghost use Prim.Native.Nat.{_-_, _/_};
-ghost use Rattle.cells.specs.Cells.{minus};
+ghost use Prim.Native.Nat.{_+_, _≤_};
+ghost use lib.ListN.{length};
+ghost use Rattle.cells.specs.Cells.{cells, minus, write};
+ghost use Rattle.ir.specs.Function.{varAt, operandAt};
+ghost use Rattle.x86.specs.Records.{recordOf, recordBytes};
 ghost use Rattle.ir.specs.Answers.{numberSays};
 ghost use Rattle.codegen.specs.Context.{displacement, stringAt, floatShort};
-ghost use Rattle.codegen.specs.Utils.{sizeFrom, varSize, convertVar, convertOperand, sizeOr, isOneByte, isConstant, loadFrom, loadString, loadValue, loadOperand};
-ghost use Rattle.utils.specs.Answers.{sizedSays, placedSays, flagSays, loadedSays, lent};
+ghost use Rattle.codegen.specs.Utils.{sizeFrom, varSize, convertVar, convertOperand, isOneByte, isConstant, loadOperand};
+ghost use Rattle.codegen.specs.Instructions.{move};
+ghost use Rattle.utils.specs.Answers.{sizeSays, operandSays, boolSays, lent};
+ghost use Rattle.utils.specs.Sources.{sourceOf, isString, loadOf};
+ghost use Rattle.utils.specs.Makes.{alone, Makes, Ready};
 
-// A flag, a size, an operand or a number of records; or the number of a refusal.
-pub enum Flag {
+// A truth value, a size, an operand or a number of records; or the number of a refusal.
+pub enum BoolResult {
     Is(bool),
     Refused(u64),
 }
 
-pub enum Sized {
+pub enum SizeResult {
     Is(Size),
     Refused(u64),
 }
 
-pub enum Placed {
+pub enum OperandResult {
     Is(Operand),
     Refused(u64),
 }
 
-pub enum Loaded {
-    Is(Instruction),
-    Refused(u64),
-}
-
-pub enum Made {
+pub enum CountResult {
     Records(u64),
     Refused(u64),
 }
 
-// How many records a slice of `len` bytes has room for from `at` on.
-pub fn room(len: usize, at: usize) -> usize
-    ensures { λ r. ⌜ r ≡ (len - at) / 64 ⌝ }
-{
-    if at <= len { (len - at) / 64 } else { 0 }
-}
-
 // Krc's `Size::from`.
-pub fn size_from(n: u64) -> Sized
-    ensures { λ r. ⌜ sizedSays r ≡ sizeFrom n ⌝ }
+pub fn size_from(n: u64) -> SizeResult
+    ensures { λ r. ⌜ sizeSays r ≡ sizeFrom n ⌝ }
 {
     match n {
-        1 => Sized::Is(Size::U8),
-        2 => Sized::Is(Size::U16),
-        4 => Sized::Is(Size::U32),
-        8 => Sized::Is(Size::U64),
-        _ => Sized::Refused(6),
+        1 => SizeResult::Is(Size::U8),
+        2 => SizeResult::Is(Size::U16),
+        4 => SizeResult::Is(Size::U32),
+        8 => SizeResult::Is(Size::U64),
+        _ => SizeResult::Refused(6),
     }
 }
 
-pub fn var_size(v: VarId) -> Sized
-    ensures { λ r. ⌜ sizedSays r ≡ varSize v ⌝ }
+pub fn var_size(v: VarId) -> SizeResult
+    ensures { λ r. ⌜ sizeSays r ≡ varSize v ⌝ }
 {
     let ty = v.ty;
     match ty.size() {
         Number::Is(n) => size_from(n),
-        Number::Refused(n) => Sized::Refused(n),
+        Number::Refused(n) => SizeResult::Refused(n),
     }
 }
 
@@ -114,72 +115,126 @@ fn string_at(tables: &[u8], offsets: &[u64], id: u64) -> Number
 }
 
 // `ctx.floats[id].1`: whether a float constant is short.
-pub fn float_short(tables: &[u8], offsets: &[u64], id: u64) -> Flag
-    ensures { λ r. ⌜ flagSays r ≡ floatShort (lent (now (tables .entry)) (now (offsets .entry))) id ⌝ }
+pub fn float_short(tables: &[u8], offsets: &[u64], id: u64) -> BoolResult
+    ensures { λ r. ⌜ boolSays r ≡ floatShort (lent (now (tables .entry)) (now (offsets .entry))) id ⌝ }
 {
     let count = tables.len() / 8;
     if 0 < count {
         if id < (count - 1) as u64 {
             let k = id as usize;
-            return Flag::Is(cells::cell_at(tables, k + 1) == 1);
+            return BoolResult::Is(cells::cell_at(tables, k + 1) == 1);
         }
     }
-    Flag::Refused(5)
+    BoolResult::Refused(5)
 }
 
 // `convert_operand` of a variable: its slot.
-pub fn convert_var(tables: &[u8], offsets: &[u64], v: VarId) -> Placed
-    ensures { λ r. ⌜ placedSays r ≡ convertVar (lent (now (tables .entry)) (now (offsets .entry))) v ⌝ }
+pub fn convert_var(tables: &[u8], offsets: &[u64], v: VarId) -> OperandResult
+    ensures { λ r. ⌜ operandSays r ≡ convertVar (lent (now (tables .entry)) (now (offsets .entry))) v ⌝ }
 {
     match displacement(tables, offsets, v.id) {
-        Number::Is(disp) => Placed::Is(Operand::MemoryAddress(MemAddress {
+        Number::Is(disp) => OperandResult::Is(Operand::MemoryAddress(MemAddress {
             base: Base::Rbp,
             disp,
         })),
-        Number::Refused(n) => Placed::Refused(n),
+        Number::Refused(n) => OperandResult::Refused(n),
     }
 }
 
-pub fn convert_operand(tables: &[u8], offsets: &[u64], op: IrOp) -> Placed
-    ensures { λ r. ⌜ placedSays r ≡ convertOperand (lent (now (tables .entry)) (now (offsets .entry))) op ⌝ }
+pub fn convert_operand(tables: &[u8], offsets: &[u64], op: IrOp) -> OperandResult
+    ensures { λ r. ⌜ operandSays r ≡ convertOperand (lent (now (tables .entry)) (now (offsets .entry))) op ⌝ }
 {
     match op {
         IrOp::Var(v) => convert_var(tables, offsets, v),
-        IrOp::Int(n, _, _) => Placed::Is(Operand::Imm(n)),
+        IrOp::Int(n, _, _) => OperandResult::Is(Operand::Imm(n)),
         IrOp::Float(k) => match float_short(tables, offsets, k) {
-            Flag::Is(_) => Placed::Is(Operand::MemoryAddress(MemAddress {
+            BoolResult::Is(_) => OperandResult::Is(Operand::MemoryAddress(MemAddress {
                 base: Base::Float,
                 disp: k,
             })),
-            Flag::Refused(n) => Placed::Refused(n),
+            BoolResult::Refused(n) => OperandResult::Refused(n),
         },
         IrOp::Bool(b) => {
             if b {
-                Placed::Is(Operand::Imm(1))
+                OperandResult::Is(Operand::Imm(1))
             } else {
-                Placed::Is(Operand::Imm(0))
+                OperandResult::Is(Operand::Imm(0))
             }
         }
-        IrOp::Address(_) => Placed::Refused(7),
-        IrOp::DataAddress(_) => Placed::Refused(7),
-        IrOp::Null => Placed::Is(Operand::Imm(0)),
+        IrOp::Address(_) => OperandResult::Refused(7),
+        IrOp::DataAddress(_) => OperandResult::Refused(7),
+        IrOp::Null => OperandResult::Is(Operand::Imm(0)),
     }
 }
 
-// `load_operand` of a string: its address.
-fn load_string(tables: &[u8], offsets: &[u64], reg: Register, id: u64) -> Loaded
-    ensures { λ r. ⌜ loadedSays r ≡ loadString (lent (now (tables .entry)) (now (offsets .entry))) reg id ⌝ }
+// What an operand is loaded from: a string's address, or the operand.
+fn string_source(tables: &[u8], offsets: &[u64], id: u64) -> OperandResult
+    ensures { λ r. ⌜ operandSays r ≡ sourceOf (lent (now (tables .entry)) (now (offsets .entry))) (IrOp.DataAddress id) ⌝ }
 {
     match string_at(tables, offsets, id) {
-        Number::Is(disp) => Loaded::Is(Instruction::Lea {
-            src: Operand::MemoryAddress(MemAddress {
-                base: Base::String,
-                disp,
-            }),
-            dst: reg,
-            size: Size::NoSize,
-        }),
-        Number::Refused(n) => Loaded::Refused(n),
+        Number::Is(disp) => OperandResult::Is(Operand::MemoryAddress(MemAddress {
+            base: Base::String,
+            disp,
+        })),
+        Number::Refused(n) => OperandResult::Refused(n),
+    }
+}
+
+pub fn source(tables: &[u8], offsets: &[u64], op: IrOp) -> OperandResult
+    ensures { λ r. ⌜ operandSays r ≡ sourceOf (lent (now (tables .entry)) (now (offsets .entry))) op ⌝ }
+{
+    if let IrOp::DataAddress(id) = op {
+        return string_source(tables, offsets, id);
+    }
+    convert_operand(tables, offsets, op)
+}
+
+// The same of the variable or the operand at a cell of the sheet.
+pub fn var_size_at(s: &[u8], k: usize) -> SizeResult
+    requires { ⌜ k + 3 ≤ cells (now s) ⌝ }
+    ensures { λ r. ⌜ sizeSays r ≡ varSize (varAt (now (s .entry)) k) ⌝ }
+{
+    var_size(var_at(s, k))
+}
+
+pub fn convert_var_at(tables: &[u8], offsets: &[u64], s: &[u8], k: usize) -> OperandResult
+    requires { ⌜ k + 3 ≤ cells (now s) ⌝ }
+    ensures { λ r. ⌜ operandSays r ≡ convertVar (lent (now (tables .entry)) (now (offsets .entry))) (varAt (now (s .entry)) k) ⌝ }
+{
+    convert_var(tables, offsets, var_at(s, k))
+}
+
+pub fn convert_operand_at(tables: &[u8], offsets: &[u64], s: &[u8], k: usize) -> OperandResult
+    requires { ⌜ k + 4 ≤ cells (now s) ⌝ }
+    ensures { λ r. ⌜ operandSays r ≡ convertOperand (lent (now (tables .entry)) (now (offsets .entry))) (operandAt (now (s .entry)) k) ⌝ }
+{
+    convert_operand(tables, offsets, operand_at(s, k))
+}
+
+pub fn source_at(tables: &[u8], offsets: &[u64], s: &[u8], k: usize) -> OperandResult
+    requires { ⌜ k + 4 ≤ cells (now s) ⌝ }
+    ensures { λ r. ⌜ operandSays r ≡ sourceOf (lent (now (tables .entry)) (now (offsets .entry))) (operandAt (now (s .entry)) k) ⌝ }
+{
+    source(tables, offsets, operand_at(s, k))
+}
+
+fn is_string(src: Operand) -> bool
+    ensures { λ r. ⌜ r ≡ isString src ⌝ }
+{
+    match src {
+        Operand::MemoryAddress(a) => {
+            let base = a.base;
+            match base {
+                Base::Rbp => false,
+                Base::String => true,
+                Base::Float => false,
+            }
+        }
+        Operand::NoOperand => false,
+        Operand::Reg(_) => false,
+        Operand::Imm(_) => false,
+        Operand::Sym(_) => false,
+        Operand::Label(_) => false,
     }
 }
 
@@ -205,49 +260,9 @@ fn is_constant(src: Operand) -> bool
     }
 }
 
-// `Option::or`.
-pub fn size_or(a: Size, b: Size) -> Size
-    ensures { λ r. ⌜ r ≡ sizeOr a b ⌝ }
+pub fn mov(dst: Operand, src: Operand, size: Size) -> Instruction
+    ensures { λ r. ⌜ r ≡ move dst src size ⌝ }
 {
-    match a {
-        Size::NoSize => b,
-        Size::U8 => Size::U8,
-        Size::U16 => Size::U16,
-        Size::U32 => Size::U32,
-        Size::U64 => Size::U64,
-    }
-}
-
-// An XMM register is loaded by LoadF; one byte by Movzx, or by a four-byte Mov of a constant; the rest by Mov.
-fn load_from(reg: Register, src: Operand, size: Size) -> Instruction
-    ensures { λ r. ⌜ r ≡ loadFrom reg src size ⌝ }
-{
-    let dst = Operand::Reg(reg);
-    if reg.is_xmm() {
-        return Instruction::Binary {
-            op: BinOp::LoadF,
-            dst,
-            src,
-            size,
-        };
-    }
-    if is_one_byte(size) {
-        if is_constant(src) {
-            return Instruction::Binary {
-                op: BinOp::Mov,
-                dst,
-                src,
-                size: Size::U32,
-            };
-        }
-        return Instruction::Extend {
-            op: ExtendOp::Movzx,
-            dst: reg,
-            src,
-            src_size: Size::U8,
-            size: Size::U64,
-        };
-    }
     Instruction::Binary {
         op: BinOp::Mov,
         dst,
@@ -256,22 +271,96 @@ fn load_from(reg: Register, src: Operand, size: Size) -> Instruction
     }
 }
 
-// `load_operand` of any other operand; the size is the operand's own where none is given.
-fn load_value(tables: &[u8], offsets: &[u64], reg: Register, op: IrOp, size: Size) -> Loaded
-    ensures { λ r. ⌜ loadedSays r ≡ loadValue (lent (now (tables .entry)) (now (offsets .entry))) reg op size ⌝ }
+// The record that brings a source into a register: a string by Lea; an XMM register is loaded by LoadF; one byte by Movzx, or by a four-byte Mov of a
+// constant; the rest by Mov.
+pub fn put_load(out: &mut [u8], at: usize, reg: Register, src: Operand, size: Size)
+    requires { ⌜ at + 64 ≤ length (now out) ⌝ }
+    ensures { λ _. ⌜ now (out .exit) ≡ write (now (out .entry)) at (recordBytes (recordOf (loadOf reg src size))) ⌝ }
 {
-    match convert_operand(tables, offsets, op) {
-        Placed::Is(src) => Loaded::Is(load_from(reg, src, size_or(size, op.size()))),
-        Placed::Refused(n) => Loaded::Refused(n),
+    if is_string(src) {
+        put_other(
+            out,
+            at,
+            Instruction::Lea {
+                src,
+                dst: reg,
+                size: Size::NoSize,
+            },
+        );
+        return;
     }
+    if reg.is_xmm() {
+        put_instruction(
+            out,
+            at,
+            Instruction::Binary {
+                op: BinOp::LoadF,
+                dst: Operand::Reg(reg),
+                src,
+                size,
+            },
+        );
+        return;
+    }
+    if is_one_byte(size) {
+        if is_constant(src) {
+            put_instruction(
+                out,
+                at,
+                Instruction::Binary {
+                    op: BinOp::Mov,
+                    dst: Operand::Reg(reg),
+                    src,
+                    size: Size::U32,
+                },
+            );
+            return;
+        }
+        put_other(
+            out,
+            at,
+            Instruction::Extend {
+                op: ExtendOp::Movzx,
+                dst: reg,
+                src,
+                src_size: Size::U8,
+                size: Size::U64,
+            },
+        );
+        return;
+    }
+    put_instruction(
+        out,
+        at,
+        Instruction::Binary {
+            op: BinOp::Mov,
+            dst: Operand::Reg(reg),
+            src,
+            size,
+        },
+    );
 }
 
-// The record that brings an operand into a register.
-pub fn load_operand(tables: &[u8], offsets: &[u64], reg: Register, op: IrOp, size: Size) -> Loaded
-    ensures { λ r. ⌜ loadedSays r ≡ loadOperand (lent (now (tables .entry)) (now (offsets .entry))) reg op size ⌝ }
+// `load_operand` with no size given: the record that brings an operand, at its own size, into a register.
+pub fn load_operand(
+    tables: &[u8],
+    offsets: &[u64],
+    reg: Register,
+    op: IrOp,
+    out: &mut [u8],
+    at: usize,
+    write: bool,
+) -> CountResult
+    requires { ⌜ Ready write (alone (loadOperand (lent (now tables) (now offsets)) reg op Size.NoSize)) at (length (now out)) ⌝ }
+    ensures { λ r. ⌜ Makes write (alone (loadOperand (lent (now (tables .entry)) (now (offsets .entry))) reg op Size.NoSize)) at (now (out .entry)) (now (out .exit)) r ⌝ }
 {
-    if let IrOp::DataAddress(id) = op {
-        return load_string(tables, offsets, reg, id);
+    match source(tables, offsets, op) {
+        OperandResult::Is(src) => {
+            if write {
+                put_load(out, at, reg, src, op.size());
+            }
+            CountResult::Records(1)
+        }
+        OperandResult::Refused(n) => CountResult::Refused(n),
     }
-    load_value(tables, offsets, reg, op, size)
 }

@@ -10,7 +10,6 @@ use native.Mathlib.Omega.{arith}
 use borrow.Author.Tests.{lt-ltb, le-ltb, eq-eqb}
 use Rattle.cells.specs.Cells.{bytesOf, word}
 use Rattle.cells.proofs.Bytes.{word-of-bytes, bytesOf-length}
-use Rattle.x86.specs.declared.register.RegisterClass.{RegisterClass}
 use Rattle.x86.specs.declared.register.Register.{Register}
 use Rattle.x86.specs.declared.mem_address.Base.{Base}
 use Rattle.x86.specs.declared.enums.Size.{Size}
@@ -56,18 +55,23 @@ condition-back ConditionCode.NP = refl
 
 binary-back : (o : BinOp) → lookUp binaries (binCode o) ≡ some o
 binary-back BinOp.Mov = refl
+binary-back BinOp.Xchg = refl
 binary-back BinOp.Add = refl
 binary-back BinOp.Sub = refl
+binary-back BinOp.Adc = refl
+binary-back BinOp.Sbb = refl
 binary-back BinOp.And = refl
 binary-back BinOp.Or = refl
 binary-back BinOp.Xor = refl
 binary-back BinOp.Cmp = refl
+binary-back BinOp.Test = refl
 binary-back BinOp.LoadF = refl
 binary-back BinOp.StoreF = refl
 binary-back BinOp.AddF = refl
 binary-back BinOp.SubF = refl
 binary-back BinOp.MulF = refl
 binary-back BinOp.DivF = refl
+binary-back BinOp.ComiF = refl
 binary-back BinOp.UcomiF = refl
 
 shift-back : (o : ShiftOp) → lookUp shifts (shiftCode o) ≡ some o
@@ -124,14 +128,8 @@ control-back (CtrlOp.JmpCC c) = conditional-back c
 
 -- ---- operands
 
-register-class : (c : RegisterClass) (k : ℕ) → k < 16 → registerAt (number (record { class = c; index = k })) ≡ some (record { class = c; index = k })
-register-class RegisterClass.Gpr k h = rw (lt-ltb k 16 h)
-register-class RegisterClass.Xmm k h =
-    let e : (16 + k) - 16 ≡ k = omega arith in
-    rw (le-ltb (16 + k) 16 (omega arith), lt-ltb (16 + k) 32 (omega arith), e)
-
 register-back : (r : Register) → FitsRegister r → registerAt (number r) ≡ some r
-register-back r h = register-class (r .class) (r .index) h
+register-back r h = rw (lt-ltb (r .number) 32 h)
 
 address-back : (b : Base) (d : ℕ) → operandOf (tagOf (Operand.MemoryAddress (record { base = b; disp = d }))) d ≡ some (Operand.MemoryAddress (record { base = b; disp = d }))
 address-back Base.Rbp d = refl
@@ -200,18 +198,23 @@ condition-lt ConditionCode.NP = lit< tt
 
 binary-lt : (o : BinOp) → binCode o < 2 ^ 64
 binary-lt BinOp.Mov = lit< tt
+binary-lt BinOp.Xchg = lit< tt
 binary-lt BinOp.Add = lit< tt
 binary-lt BinOp.Sub = lit< tt
+binary-lt BinOp.Adc = lit< tt
+binary-lt BinOp.Sbb = lit< tt
 binary-lt BinOp.And = lit< tt
 binary-lt BinOp.Or = lit< tt
 binary-lt BinOp.Xor = lit< tt
 binary-lt BinOp.Cmp = lit< tt
+binary-lt BinOp.Test = lit< tt
 binary-lt BinOp.LoadF = lit< tt
 binary-lt BinOp.StoreF = lit< tt
 binary-lt BinOp.AddF = lit< tt
 binary-lt BinOp.SubF = lit< tt
 binary-lt BinOp.MulF = lit< tt
 binary-lt BinOp.DivF = lit< tt
+binary-lt BinOp.ComiF = lit< tt
 binary-lt BinOp.UcomiF = lit< tt
 
 shift-lt : (o : ShiftOp) → shiftCode o < 2 ^ 64
@@ -269,10 +272,6 @@ control-lt (CtrlOp.JmpCC c) = omega (arith, conditional-lt c)
 prefix-lt : (p : Prefix) (o : StringOp) → 16 * prefixCode p + stringCode o < 2 ^ 64
 prefix-lt Prefix.Rep StringOp.Stos = lit< tt
 
-register-lt : (c : RegisterClass) (k : ℕ) → k < 16 → number (record { class = c; index = k }) < 2 ^ 64
-register-lt RegisterClass.Gpr k h = omega arith
-register-lt RegisterClass.Xmm k h = omega arith
-
 base-lt : (b : Base) → baseTag b < 2 ^ 64
 base-lt Base.Rbp = lit< tt
 base-lt Base.String = lit< tt
@@ -288,7 +287,7 @@ tag-lt (Operand.MemoryAddress a) = base-lt (a .base)
 
 value-lt : (x : Operand) → FitsOperand x → valueOf x < 2 ^ 64
 value-lt Operand.NoOperand h = lit< tt
-value-lt (Operand.Reg r) h = register-lt (r .class) (r .index) h
+value-lt (Operand.Reg r) h = omega arith
 value-lt (Operand.Imm v) h = h
 value-lt (Operand.Sym k) h = h
 value-lt (Operand.Label l) h = h

@@ -21,7 +21,7 @@ use Rattle.x86.specs.declared.enums.Prefix.{Prefix}
 use Rattle.x86.specs.declared.enums.ExtendOp.{ExtendOp}
 use Rattle.x86.specs.declared.enums.ConvOp.{ConvOp}
 use Rattle.x86.specs.declared.enums.Instruction.{Instruction}
-use Rattle.x86.specs.Registers.{gpr, xmm, rbpPlus, ripString, ripFloat}
+use Rattle.x86.specs.Registers.{gpr, rbpPlus, ripString, ripFloat}
 use Rattle.x86.specs.Records.{Record, recordOf}
 
 infixl 20 _>>=_
@@ -44,8 +44,9 @@ conditions =
 
 abbrev pub binaries : List (ℕ × BinOp)
 binaries =
-    (0, BinOp.Mov) ∷ (2, BinOp.Add) ∷ (3, BinOp.Sub) ∷ (6, BinOp.And) ∷ (7, BinOp.Or) ∷ (8, BinOp.Xor) ∷ (9, BinOp.Cmp) ∷ (11, BinOp.LoadF)
-    ∷ (12, BinOp.StoreF) ∷ (13, BinOp.AddF) ∷ (14, BinOp.SubF) ∷ (15, BinOp.MulF) ∷ (16, BinOp.DivF) ∷ (18, BinOp.UcomiF) ∷ []
+    (0, BinOp.Mov) ∷ (1, BinOp.Xchg) ∷ (2, BinOp.Add) ∷ (3, BinOp.Sub) ∷ (4, BinOp.Adc) ∷ (5, BinOp.Sbb) ∷ (6, BinOp.And)
+    ∷ (7, BinOp.Or) ∷ (8, BinOp.Xor) ∷ (9, BinOp.Cmp) ∷ (10, BinOp.Test) ∷ (11, BinOp.LoadF) ∷ (12, BinOp.StoreF) ∷ (13, BinOp.AddF)
+    ∷ (14, BinOp.SubF) ∷ (15, BinOp.MulF) ∷ (16, BinOp.DivF) ∷ (17, BinOp.ComiF) ∷ (18, BinOp.UcomiF) ∷ []
 
 abbrev pub shifts : List (ℕ × ShiftOp)
 shifts = (0, ShiftOp.Shl) ∷ (1, ShiftOp.Shr) ∷ (2, ShiftOp.Sar) ∷ []
@@ -72,7 +73,7 @@ conversions =
 
 -- a general register's number is below 16, an XMM register's below 32
 abbrev pub registerAt : ℕ → Option Register
-registerAt k = cond (ltb k 16) (some (gpr k)) (cond (ltb k 32) (some (xmm (k - 16))) none)
+registerAt k = cond (ltb k 32) (some (gpr k)) none
 
 -- by the tag, from 0: none, register, immediate, symbol, label, RBP plus value, string, float
 abbrev pub operandOf : ℕ → ℕ → Option Operand
@@ -216,7 +217,7 @@ decodeList bs (suc n) at = do
 -- ---- which instructions have a record: their registers exist and their numbers are below 2 ^ 64
 
 abbrev pub FitsRegister : Register → Type 0
-FitsRegister r = r .index < 16
+FitsRegister r = r .number < 32
 
 abbrev pub FitsOperand : Operand → Type 0
 FitsOperand Operand.NoOperand = Unit {0}

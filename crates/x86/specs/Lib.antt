@@ -1,4 +1,3 @@
 pub mod Registers
 pub mod Records
 pub mod Decode
-pub mod Says

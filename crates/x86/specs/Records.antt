@@ -29,6 +29,14 @@ sizeCode Size.U16 = 2
 sizeCode Size.U32 = 4
 sizeCode Size.U64 = 8
 
+-- its position in Krc's `Size`, counted from 1
+abbrev pub sizePosition : Size → ℕ
+sizePosition Size.NoSize = 0
+sizePosition Size.U8 = 1
+sizePosition Size.U16 = 2
+sizePosition Size.U32 = 3
+sizePosition Size.U64 = 4
+
 -- 5 RBP plus value, 6 string, 7 float
 abbrev pub baseTag : Base → ℕ
 baseTag Base.Rbp = 5
@@ -70,18 +78,23 @@ conditionCode ConditionCode.NP = 15
 
 abbrev pub binCode : BinOp → ℕ
 binCode BinOp.Mov = 0
+binCode BinOp.Xchg = 1
 binCode BinOp.Add = 2
 binCode BinOp.Sub = 3
+binCode BinOp.Adc = 4
+binCode BinOp.Sbb = 5
 binCode BinOp.And = 6
 binCode BinOp.Or = 7
 binCode BinOp.Xor = 8
 binCode BinOp.Cmp = 9
+binCode BinOp.Test = 10
 binCode BinOp.LoadF = 11
 binCode BinOp.StoreF = 12
 binCode BinOp.AddF = 13
 binCode BinOp.SubF = 14
 binCode BinOp.MulF = 15
 binCode BinOp.DivF = 16
+binCode BinOp.ComiF = 17
 binCode BinOp.UcomiF = 18
 
 abbrev pub shiftCode : ShiftOp → ℕ

@@ -3,7 +3,7 @@ use crate::mem_address::MemAddress;
 use crate::register::Register;
 ghost use mathlib.Core.Path.{_≡_};
 ghost use Prim.Native.Nat.{_<_};
-ghost use Rattle.x86.specs.Records.{sizeCode, tagOf, valueOf, conditionCode, binCode, shiftCode, complexCode, unaryCode, stackCode, ctrlCode, prefixCode, stringCode, extendCode, convCode};
+ghost use Rattle.x86.specs.Records.{sizePosition, sizeCode, tagOf, valueOf, conditionCode, binCode, shiftCode, complexCode, unaryCode, stackCode, ctrlCode, prefixCode, stringCode, extendCode, convCode};
 
 // Krc's `Option<Size>`.
 pub enum Size {
@@ -15,16 +15,23 @@ pub enum Size {
 }
 
 impl Size {
-    pub fn code(self) -> u64
-        ensures { λ r. ⌜ r ≡ sizeCode self ⌝ }
+    fn position(self) -> u64
+        ensures { λ r. ⌜ (r ≡ sizePosition self) × (r < 5) ⌝ }
     {
         match self {
             Size::NoSize => 0,
             Size::U8 => 1,
             Size::U16 => 2,
-            Size::U32 => 4,
-            Size::U64 => 8,
+            Size::U32 => 3,
+            Size::U64 => 4,
         }
+    }
+
+    // 0, 1, 2, 4 or 8, with no table: what puts a record is small enough to vanish where it is called.
+    pub fn code(self) -> u64
+        ensures { λ r. ⌜ r ≡ sizeCode self ⌝ }
+    {
+        (1 << self.position()) / 2
     }
 }
 
@@ -104,20 +111,26 @@ impl ConditionCode {
     }
 }
 
+// All of Krc's operations, so that a code is a position and needs no table.
 pub enum BinOp {
     Mov,
+    Xchg,
     Add,
     Sub,
+    Adc,
+    Sbb,
     And,
     Or,
     Xor,
     Cmp,
+    Test,
     LoadF,
     StoreF,
     AddF,
     SubF,
     MulF,
     DivF,
+    ComiF,
     UcomiF,
 }
 
@@ -127,18 +140,23 @@ impl BinOp {
     {
         match self {
             BinOp::Mov => 0,
+            BinOp::Xchg => 1,
             BinOp::Add => 2,
             BinOp::Sub => 3,
+            BinOp::Adc => 4,
+            BinOp::Sbb => 5,
             BinOp::And => 6,
             BinOp::Or => 7,
             BinOp::Xor => 8,
             BinOp::Cmp => 9,
+            BinOp::Test => 10,
             BinOp::LoadF => 11,
             BinOp::StoreF => 12,
             BinOp::AddF => 13,
             BinOp::SubF => 14,
             BinOp::MulF => 15,
             BinOp::DivF => 16,
+            BinOp::ComiF => 17,
             BinOp::UcomiF => 18,
         }
     }

@@ -7,18 +7,6 @@ ghost use Prim.Native.Nat.{_+_, _≤_};
 ghost use lib.ListN.{length};
 ghost use Rattle.cells.specs.Cells.{write};
 ghost use Rattle.x86.specs.Records.{cellsRecord, recordWith, recordOf, recordBytes};
-ghost use Rattle.x86.specs.Says.{recordSays};
-
-pub struct Record {
-    pub form: u64,
-    pub operation: u64,
-    pub dst_tag: u64,
-    pub dst: u64,
-    pub src_tag: u64,
-    pub src: u64,
-    pub size: u64,
-    pub src_size: u64,
-}
 
 // Writes eight cells from `at`; every other byte stays.
 fn put_words(
@@ -46,35 +34,66 @@ fn put_words(
     cells::put_word(out, at + 56, src_size);
 }
 
-// The record with a form, an operation, two operands and two sizes.
-fn record_with(
+// Writes the record with a form, an operation, two operands and two sizes from `at`; every other byte stays.
+fn put_form(
+    out: &mut [u8],
+    at: usize,
     form: u64,
     operation: u64,
     dst: Operand,
     src: Operand,
     size: Size,
     src_size: Size,
-) -> Record
-    ensures { λ r. ⌜ recordSays r ≡ recordWith form operation dst src size «src_size» ⌝ }
+)
+    requires { ⌜ at + 64 ≤ length (now out) ⌝ }
+    ensures { λ _. ⌜ now (out .exit) ≡ write (now (out .entry)) at (recordBytes (recordWith form operation dst src size «src_size»)) ⌝ }
 {
-    Record {
+    put_words(
+        out,
+        at,
         form,
         operation,
-        dst_tag: dst.tag(),
-        dst: dst.value(),
-        src_tag: src.tag(),
-        src: src.value(),
-        size: size.code(),
-        src_size: src_size.code(),
+        dst.tag(),
+        dst.value(),
+        src.tag(),
+        src.value(),
+        size.code(),
+        src_size.code(),
+    );
+}
+
+// Writes the record of an instruction from `at`; every other byte stays. The commonest case is here, so that the call vanishes where it is made.
+pub fn put_instruction(out: &mut [u8], at: usize, i: Instruction)
+    requires { ⌜ at + 64 ≤ length (now out) ⌝ }
+    ensures { λ _. ⌜ now (out .exit) ≡ write (now (out .entry)) at (recordBytes (recordOf i)) ⌝ }
+{
+    match i {
+        Instruction::Binary { op, dst, src, size } => put_words(
+            out,
+            at,
+            0,
+            op.code(),
+            dst.tag(),
+            dst.value(),
+            src.tag(),
+            src.value(),
+            size.code(),
+            0,
+        ),
+        _ => put_other(out, at, i),
     }
 }
 
-// The record of an instruction. The form is the position in Krc's `Instruction`.
-pub fn record_of(i: Instruction) -> Record
-    ensures { λ r. ⌜ recordSays r ≡ recordOf i ⌝ }
+// The same, over every case.
+pub fn put_other(out: &mut [u8], at: usize, i: Instruction)
+    requires { ⌜ at + 64 ≤ length (now out) ⌝ }
+    ensures { λ _. ⌜ now (out .exit) ≡ write (now (out .entry)) at (recordBytes (recordOf i)) ⌝ }
 {
+    let none = Operand::NoOperand;
     match i {
-        Instruction::Binary { op, dst, src, size } => record_with(
+        Instruction::Binary { op, dst, src, size } => put_form(
+            out,
+            at,
             0,
             op.code(),
             dst,
@@ -82,7 +101,9 @@ pub fn record_of(i: Instruction) -> Record
             size,
             Size::NoSize,
         ),
-        Instruction::ComplexBinary { op, dst, src, size } => record_with(
+        Instruction::ComplexBinary { op, dst, src, size } => put_form(
+            out,
+            at,
             4,
             op.code(),
             dst,
@@ -90,7 +111,9 @@ pub fn record_of(i: Instruction) -> Record
             size,
             Size::NoSize,
         ),
-        Instruction::Convert { op, dst, src, size } => record_with(
+        Instruction::Convert { op, dst, src, size } => put_form(
+            out,
+            at,
             5,
             op.code(),
             Operand::Reg(dst),
@@ -98,11 +121,13 @@ pub fn record_of(i: Instruction) -> Record
             size,
             Size::NoSize,
         ),
-        Instruction::Ctrl { op, target } => record_with(
+        Instruction::Ctrl { op, target } => put_form(
+            out,
+            at,
             6,
             op.code(),
             target,
-            Operand::NoOperand,
+            none,
             Size::NoSize,
             Size::NoSize,
         ),
@@ -112,8 +137,19 @@ pub fn record_of(i: Instruction) -> Record
             src,
             src_size,
             size,
-        } => record_with(7, op.code(), Operand::Reg(dst), src, size, src_size),
-        Instruction::Lea { src, dst, size } => record_with(
+        } => put_form(
+            out,
+            at,
+            7,
+            op.code(),
+            Operand::Reg(dst),
+            src,
+            size,
+            src_size,
+        ),
+        Instruction::Lea { src, dst, size } => put_form(
+            out,
+            at,
             8,
             0,
             Operand::Reg(dst),
@@ -121,31 +157,39 @@ pub fn record_of(i: Instruction) -> Record
             size,
             Size::NoSize,
         ),
-        Instruction::Label(n) => record_with(
+        Instruction::Label(n) => put_form(
+            out,
+            at,
             9,
             0,
             Operand::Label(n),
-            Operand::NoOperand,
+            none,
             Size::NoSize,
             Size::NoSize,
         ),
-        Instruction::Prefix { prefix, op, size } => record_with(
+        Instruction::Prefix { prefix, op, size } => put_form(
+            out,
+            at,
             11,
             16 * prefix.code() + op.code(),
-            Operand::NoOperand,
-            Operand::NoOperand,
+            none,
+            none,
             size,
             Size::NoSize,
         ),
-        Instruction::SetCC { op, dst } => record_with(
+        Instruction::SetCC { op, dst } => put_form(
+            out,
+            at,
             12,
             op.code(),
             dst,
-            Operand::NoOperand,
+            none,
             Size::NoSize,
             Size::NoSize,
         ),
-        Instruction::Shift { op, dst, src, size } => record_with(
+        Instruction::Shift { op, dst, src, size } => put_form(
+            out,
+            at,
             13,
             op.code(),
             dst,
@@ -153,48 +197,25 @@ pub fn record_of(i: Instruction) -> Record
             size,
             Size::NoSize,
         ),
-        Instruction::Stack { op, value, size } => record_with(
+        Instruction::Stack { op, value, size } => put_form(
+            out,
+            at,
             14,
             op.code(),
             value,
-            Operand::NoOperand,
+            none,
             size,
             Size::NoSize,
         ),
-        Instruction::Unary { op, dst, size } => record_with(
+        Instruction::Unary { op, dst, size } => put_form(
+            out,
+            at,
             17,
             op.code(),
             dst,
-            Operand::NoOperand,
+            none,
             size,
             Size::NoSize,
         ),
     }
-}
-
-// Writes a record from `at`; every other byte stays.
-pub fn put_record(out: &mut [u8], at: usize, r: Record)
-    requires { ⌜ at + 64 ≤ length (now out) ⌝ }
-    ensures { λ _. ⌜ now (out .exit) ≡ write (now (out .entry)) at (recordBytes (recordSays r)) ⌝ }
-{
-    put_words(
-        out,
-        at,
-        r.form,
-        r.operation,
-        r.dst_tag,
-        r.dst,
-        r.src_tag,
-        r.src,
-        r.size,
-        r.src_size,
-    );
-}
-
-// Writes the record of an instruction from `at`; every other byte stays.
-pub fn put_instruction(out: &mut [u8], at: usize, i: Instruction)
-    requires { ⌜ at + 64 ≤ length (now out) ⌝ }
-    ensures { λ _. ⌜ now (out .exit) ≡ write (now (out .entry)) at (recordBytes (recordOf i)) ⌝ }
-{
-    put_record(out, at, record_of(i));
 }

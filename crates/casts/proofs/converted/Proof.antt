@@ -1,56 +1,28 @@
+use mathlib.Core.Path.{ap, _∙_}
+use Rattle.ir.specs.Types.{isFloat}
+use Rattle.instructions.proofs.Looked.{dest-type}
+use Rattle.casts.specs.Casts.{sourceSays, storedSays, storeOp, convertedOf}
+use Rattle.casts.proofs.Casts.{converted-looked, two-behind, as-many}
+use Rattle.utils.proofs.Made.{told, has-room, makes, counts, refuses}
 use borrow.Author.Needs.{needs}
 use Rattle.casts.proofs.converted.Statement.{statement}
 use Rattle.casts.proofs.converted.Tie as tie
 
-convert-var-requires : tie.Need-convert-var-requires
-convert-var-requires c κs = search needs
-
-enum-known-var : tie.Need-enum-known-var
-enum-known-var c = search needs
-
-enum-known-n : tie.Need-enum-known-n
-enum-known-n c = search needs
+put-converted-requires : tie.Need-put-converted-requires
+put-converted-requires c κs = rw (c .store-op .ensures ∙ ap storeOp (c .before .is-float .ensures ∙ ap isFloat (c .before .before .before .before .before .before .before .before .before .type-at .ensures ∙ dest-type _ _))) (has-room (convertedOf (sourceSays (c .before .before .before .before .before .before .before .before .before .before .before .before .before .before .args .from)) (c .before .before .before .before .before .before .before .before .before .before .before .before .before .before .args .op) (c .before .before .before .before .before .before .before .before .before .before .before .before .before .before .args .reg) (c .before .before .before .before .before .before .before .before .before .before .before .before .before .before .args .by) _) (converted-looked _ _ (sourceSays (c .before .before .before .before .before .before .before .before .before .before .before .before .before .before .args .from)) (c .before .before .before .before .before .before .before .before .before .before .before .before .before .before .args .op) (c .before .before .before .before .before .before .before .before .before .before .before .before .before .before .args .reg) (c .before .before .before .before .before .before .before .before .before .before .before .before .before .before .args .by)) (told storedSays (c .before .before .before .before .before .before .before .before .look-store .ensures) (c .before .before .before .before .before .before .t .given .1)) (c .before .before .before .before .before .before .before .before .before .before .before .before .before .before .pre .1) (c .before .before .before .if1 .taken))
 
 returns : tie.Need-returns
-returns c = simp (← c .before .before .before .convert-var .ensures, c .before .n .given .1)
-
-var-size-requires : tie.Need-var-size-requires
-var-size-requires c κs = search needs
-
-enum-known-stored : tie.Need-enum-known-stored
-enum-known-stored c = search needs
-
-is-float-requires : tie.Need-is-float-requires
-is-float-requires c κs = search needs
-
-store-of-requires : tie.Need-store-of-requires
-store-of-requires c κs = search needs
-
-then-two-requires : tie.Need-then-two-requires
-then-two-requires c κs = search needs
-
-enum-known-n-2 : tie.Need-enum-known-n-2
-enum-known-n-2 c = search needs
+returns c = as-many (makes (convertedOf (sourceSays (c .before .before .before .before .before .before .before .before .before .before .before .before .before .before .before .before .before .args .from)) (c .before .before .before .before .before .before .before .before .before .before .before .before .before .before .before .before .before .args .op) (c .before .before .before .before .before .before .before .before .before .before .before .before .before .before .before .before .before .args .reg) (c .before .before .before .before .before .before .before .before .before .before .before .before .before .before .before .before .before .args .by) _) (converted-looked _ _ (sourceSays (c .before .before .before .before .before .before .before .before .before .before .before .before .before .before .before .before .before .args .from)) (c .before .before .before .before .before .before .before .before .before .before .before .before .before .before .before .before .before .args .op) (c .before .before .before .before .before .before .before .before .before .before .before .before .before .before .before .before .before .args .reg) (c .before .before .before .before .before .before .before .before .before .before .before .before .before .before .before .before .before .args .by)) (told storedSays (c .before .before .before .before .before .before .before .before .before .before .before .look-store .ensures) (c .before .before .before .before .before .before .before .before .before .t .given .1)) (c .before .before .before .before .before .before .if1 .taken) (rw (c .before .before .before .store-op .ensures ∙ ap storeOp (c .before .before .before .before .is-float .ensures ∙ ap isFloat (c .before .before .before .before .before .before .before .before .before .before .before .before .type-at .ensures ∙ dest-type _ _))) at (c .before .before .put-converted .ensures))) (rw (c .before .before .before .before .before .before .before .source-count .ensures .0, two-behind))
 
 returns-2 : tie.Need-returns-2
-returns-2 c = simp (← c .before .before .before .before .before .before .before .before .before .before .before .convert-var .ensures, c .before .before .before .before .before .before .before .before .before .var .given .1, ← c .before .before .before .before .before .before .var-size .ensures, c .before .before .before .before .stored .given .1, ← c .before .before .is-float .ensures, ← c .before .store-of .ensures, c .then-two .ensures)
+returns-2 c = as-many (counts (convertedOf (sourceSays (c .before .before .before .before .before .before .before .before .before .before .before .args .from)) (c .before .before .before .before .before .before .before .before .before .before .before .args .op) (c .before .before .before .before .before .before .before .before .before .before .before .args .reg) (c .before .before .before .before .before .before .before .before .before .before .before .args .by) _) (converted-looked _ _ (sourceSays (c .before .before .before .before .before .before .before .before .before .before .before .args .from)) (c .before .before .before .before .before .before .before .before .before .before .before .args .op) (c .before .before .before .before .before .before .before .before .before .before .before .args .reg) (c .before .before .before .before .before .before .before .before .before .before .before .args .by)) (told storedSays (c .before .before .before .before .before .look-store .ensures) (c .before .before .before .t .given .1)) (c .if1 .left)) (rw (c .before .source-count .ensures .0, two-behind))
 
 returns-3 : tie.Need-returns-3
-returns-3 c = simp (← c .before .before .before .before .before .before .before .before .convert-var .ensures, c .before .before .before .before .before .before .var .given .1, ← c .before .before .before .var-size .ensures, c .before .n2 .given .1)
+returns-3 c = refuses (convertedOf (sourceSays (c .before .before .before .before .before .before .before .before .before .args .from)) (c .before .before .before .before .before .before .before .before .before .args .op) (c .before .before .before .before .before .before .before .before .before .args .reg) (c .before .before .before .before .before .before .before .before .before .args .by) _) (converted-looked _ _ (sourceSays (c .before .before .before .before .before .before .before .before .before .args .from)) (c .before .before .before .before .before .before .before .before .before .args .op) (c .before .before .before .before .before .before .before .before .before .args .reg) (c .before .before .before .before .before .before .before .before .before .args .by)) (told storedSays (c .before .before .before .look-store .ensures) (c .before .n .given .1))
 
 pub converted-spec : {M : Type 1} → statement M
 converted-spec =
     tie.close
     (tie.spec
-    convert-var-requires
-    enum-known-var
-    enum-known-n
-    returns
-    var-size-requires
-    enum-known-stored
-    is-float-requires
-    store-of-requires
-    then-two-requires
-    enum-known-n-2
-    returns-2
-    returns-3)
+    (λ c. search needs) (λ c κs. search needs) (λ c κs. search needs) (λ c. search needs) (λ c κs. search needs) (λ c. search needs)
+    (λ c κs. search needs) (λ c κs. search needs) put-converted-requires (λ c. search needs) (λ c. search needs) returns returns-2 returns-3)

@@ -1,79 +1,25 @@
-use mathlib.Core.Path.{sym, ap, _∙_}
-use mathlib.Core.List.{[], _∷_, _++_}
-use Rattle.ir.specs.Types.{ok}
-use Rattle.x86.specs.declared.enums.Instruction.{Instruction}
-use Rattle.x86.specs.Records.{recordOf}
-use Rattle.casts.specs.Says.{sourceSays}
-use Rattle.casts.proofs.Casts.{wide, eight, four}
+use Rattle.casts.specs.Casts.{sourceSays, storedSays, extendedOf}
+use Rattle.casts.proofs.Casts.{extended-looked, extended-length, as-many}
+use Rattle.utils.proofs.Made.{told, has-room, makes, counts, refuses}
 use borrow.Author.Needs.{needs}
 use Rattle.casts.proofs.extended.Statement.{statement}
 use Rattle.casts.proofs.extended.Tie as tie
 
-convert-var-requires : tie.Need-convert-var-requires
-convert-var-requires c κs = search needs
-
-enum-known-var : tie.Need-enum-known-var
-enum-known-var c = search needs
-
-enum-known-n : tie.Need-enum-known-n
-enum-known-n c = search needs
+put-extended-requires : tie.Need-put-extended-requires
+put-extended-requires c κs = has-room (extendedOf (sourceSays (c .before .before .before .before .before .before .before .before .before .before .before .before .before .args .from))) (extended-looked _ _ (sourceSays (c .before .before .before .before .before .before .before .before .before .before .before .before .before .args .from))) (told storedSays (c .before .before .before .before .before .before .before .before .look-store .ensures) (c .before .before .before .before .before .before .t .given .1)) (c .before .before .before .before .before .before .before .before .before .before .before .before .before .pre .1) (c .before .if1 .taken)
 
 returns : tie.Need-returns
-returns c = simp (← c .before .before .before .convert-var .ensures, c .before .n .given .1)
-
-var-size-requires : tie.Need-var-size-requires
-var-size-requires c κs = search needs
-
-enum-known-size : tie.Need-enum-known-size
-enum-known-size c = search needs
-
-enum-known-n-2 : tie.Need-enum-known-n-2
-enum-known-n-2 c = search needs
+returns c = as-many (makes (extendedOf (sourceSays (c .before .before .before .before .before .before .before .before .before .before .before .before .before .before .before .before .args .from))) (extended-looked _ _ (sourceSays (c .before .before .before .before .before .before .before .before .before .before .before .before .before .before .before .before .args .from))) (told storedSays (c .before .before .before .before .before .before .before .before .before .before .before .look-store .ensures) (c .before .before .before .before .before .before .before .before .before .t .given .1)) (c .before .before .before .before .if1 .taken) (c .before .before .put-extended .ensures)) (rw (c .before .before .before .before .before .before .before .source-count .ensures .0, c .before .before .before .before .before .one-if .ensures .0, c .before .before .before .before .before .before .is-extended .ensures, extended-length))
 
 returns-2 : tie.Need-returns-2
-returns-2 c = simp (← c .before .before .before .before .before .before .before .convert-var .ensures, c .before .before .before .before .before .var .given .1, ← c .before .before .before .var-size .ensures, c .before .n2 .given .1)
-
-mov-requires : tie.Need-mov-requires
-mov-requires c κs = search needs
-
-then-one-requires : tie.Need-then-one-requires
-then-one-requires c κs = search needs
+returns-2 c = as-many (counts (extendedOf (sourceSays (c .before .before .before .before .before .before .before .before .before .before .before .before .args .from))) (extended-looked _ _ (sourceSays (c .before .before .before .before .before .before .before .before .before .before .before .before .args .from))) (told storedSays (c .before .before .before .before .before .before .before .look-store .ensures) (c .before .before .before .before .before .t .given .1)) (c .if1 .left)) (rw (c .before .before .before .source-count .ensures .0, c .before .one-if .ensures .0, c .before .before .is-extended .ensures, extended-length))
 
 returns-3 : tie.Need-returns-3
-returns-3 c =
-    let s = c .before .before .before .before .before .before .before .before .before .before .before .before .before .before .args .s in
-    simp (← c .before .before .before .before .before .before .before .before .before .before .before .convert-var .ensures, c .before .before .before .before .before .before .before .before .before .var .given .1, ← c .before .before .before .before .before .before .before .var-size .ensures, c .before .before .before .before .before .size .given .1, ← c .before .before .before .mov .ensures)
-    (c .then-one .ensures ∙ ap ok (sym (eight (sourceSays s .records) (s .size) (wide (s .operand)) (recordOf (c .before .before .before .mov .result)) (c .before .if1 .taken))))
-
-movsxd-requires : tie.Need-movsxd-requires
-movsxd-requires c κs = search needs
-
-then-two-requires : tie.Need-then-two-requires
-then-two-requires c κs = search needs
-
-returns-4 : tie.Need-returns-4
-returns-4 c =
-    let s = c .before .before .before .before .before .before .before .before .before .before .before .before .before .before .before .args .s in
-    simp (← c .before .before .before .before .before .before .before .before .before .before .before .before .convert-var .ensures, c .before .before .before .before .before .before .before .before .before .before .var .given .1, ← c .before .before .before .before .before .before .before .before .var-size .ensures, c .before .before .before .before .before .before .size .given .1, ← c .before .before .before .before .mov .ensures)
-    (c .then-two .ensures
-    ∙ ap (λ (w : Instruction). ok (sourceSays s .records ++ recordOf w ∷ recordOf (c .before .before .before .before .mov .result) ∷ [])) (c .before .movsxd .ensures)
-    ∙ ap ok (sym (four (sourceSays s .records) (s .size) (wide (s .operand)) (recordOf (c .before .before .before .before .mov .result)) (c .before .before .if1 .left))))
+returns-3 c = refuses (extendedOf (sourceSays (c .before .before .before .before .before .before .before .before .args .from))) (extended-looked _ _ (sourceSays (c .before .before .before .before .before .before .before .before .args .from))) (told storedSays (c .before .before .before .look-store .ensures) (c .before .n .given .1))
 
 pub extended-spec : {M : Type 1} → statement M
 extended-spec =
     tie.close
     (tie.spec
-    convert-var-requires
-    enum-known-var
-    enum-known-n
-    returns
-    var-size-requires
-    enum-known-size
-    enum-known-n-2
-    returns-2
-    mov-requires
-    then-one-requires
-    returns-3
-    movsxd-requires
-    then-two-requires
-    returns-4)
+    (λ c κs. search needs) (λ c. search needs) (λ c κs. search needs) (λ c. search needs) (λ c κs. search needs) (λ c κs. search needs)
+    (λ c. search needs) put-extended-requires (λ c. search needs) (λ c. search needs) returns returns-2 returns-3)

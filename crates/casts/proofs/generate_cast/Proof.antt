@@ -1,70 +1,44 @@
-use Rattle.casts.proofs.Casts.{cast-records}
-use Rattle.codegen.specs.Instructions.{generateCast}
+use mathlib.Core.Path.{sym, ap, _∙_}
+use Rattle.ir.specs.Types.{typeSize, isFloat}
+use Rattle.ir.specs.Answers.{numberSays}
+use Rattle.utils.specs.Kinds.{kindResultSays}
+use Rattle.instructions.proofs.Looked.{dest-type}
+use Rattle.casts.specs.Casts.{sourceResultSays}
+use Rattle.utils.proofs.Made.{told, ready-as, makes-as, no-list}
+use Rattle.casts.proofs.Casts.{no-kind, no-size, is-copied, is-cast, no-source}
 use borrow.Author.Needs.{needs}
 use Rattle.casts.proofs.generate_cast.Statement.{statement}
 use Rattle.casts.proofs.generate_cast.Tie as tie
 
-operand-kind-requires : tie.Need-operand-kind-requires
-operand-kind-requires c κs = search needs
-
-enum-known-k : tie.Need-enum-known-k
-enum-known-k c = search needs
-
-enum-known-n : tie.Need-enum-known-n
-enum-known-n c = search needs
-
 returns : tie.Need-returns
-unfolding generateCast
-returns c = simp (← c .before .before .before .operand-kind .ensures, c .before .n .given .1)
-
-size-requires : tie.Need-size-requires
-size-requires c κs = search needs
-
-enum-known-size : tie.Need-enum-known-size
-enum-known-size c = search needs
-
-enum-known-n-2 : tie.Need-enum-known-n-2
-enum-known-n-2 c = search needs
+returns c = no-list (no-kind _ _ _ (told kindResultSays (rw (c .before .before .before .before .operand-at .ensures) at (c .before .before .before .operand-kind .ensures)) (c .before .number .given .1)))
 
 returns-2 : tie.Need-returns-2
-unfolding generateCast
-returns-2 c = simp (← c .before .before .before .before .before .before .before .before .operand-kind .ensures, c .before .before .before .before .before .before .k .given .1, ← c .before .before .before .size .ensures, c .before .n2 .given .1)
-
-is-float-requires : tie.Need-is-float-requires
-is-float-requires c κs = search needs
-
-is-copy-requires : tie.Need-is-copy-requires
-is-copy-requires c κs = search needs
+returns-2 c = no-list (no-size _ _ _ (told kindResultSays (rw (c .before .before .before .before .before .before .before .before .operand-at .ensures) at (c .before .before .before .before .before .before .before .operand-kind .ensures)) (c .before .before .before .before .before .kind .given .1)) (told numberSays (c .before .before .before .size .ensures ∙ ap typeSize (c .before .before .before .before .before .before .before .before .before .before .type-at .ensures ∙ dest-type _ _)) (c .before .number2 .given .1)))
 
 generate-copy-requires : tie.Need-generate-copy-requires
-generate-copy-requires c κs = search needs
+generate-copy-requires c κs = (c .before .before .before .before .before .before .before .before .before .before .before .before .before .before .before .before .before .before .pre .0, ready-as (is-copied _ _ _ (told kindResultSays (rw (c .before .before .before .before .before .before .before .before .before .before .before .operand-at .ensures) at (c .before .before .before .before .before .before .before .before .before .before .operand-kind .ensures)) (c .before .before .before .before .before .before .before .before .kind .given .1)) (told numberSays (c .before .before .before .before .before .before .size .ensures ∙ ap typeSize (c .before .before .before .before .before .before .before .before .before .before .before .before .before .type-at .ensures ∙ dest-type _ _)) (c .before .before .before .before .n .given .1)) (rw (c .before .before .before .before .before .before .before .before .before .before .before .before .is-float .ensures ∙ ap isFloat (c .before .before .before .before .before .before .before .before .before .before .before .before .before .type-at .ensures ∙ dest-type _ _)) at (sym (c .before .before .is-copy .ensures) ∙ c .before .if1 .taken))) (c .before .before .before .before .before .before .before .before .before .before .before .before .before .before .before .before .before .before .pre .1))
 
 returns-3 : tie.Need-returns-3
-unfolding generateCast
-returns-3 c = simp (← c .before .before .before .before .before .before .before .before .before .before .before .before .operand-kind .ensures, c .before .before .before .before .before .before .before .before .before .before .k .given .1, ← c .before .before .before .before .before .before .before .size .ensures, c .before .before .before .before .before .size2 .given .1, ← c .before .before .before .is-float .ensures, ← c .before .before .is-copy .ensures, c .before .if1 .taken, c .generate-copy .ensures)
+returns-3 c = makes-as (is-copied _ _ _ (told kindResultSays (rw (c .before .before .before .before .before .before .before .before .before .before .before .before .before .before .operand-at .ensures) at (c .before .before .before .before .before .before .before .before .before .before .before .before .before .operand-kind .ensures)) (c .before .before .before .before .before .before .before .before .before .before .before .kind .given .1)) (told numberSays (c .before .before .before .before .before .before .before .before .before .size .ensures ∙ ap typeSize (c .before .before .before .before .before .before .before .before .before .before .before .before .before .before .before .before .type-at .ensures ∙ dest-type _ _)) (c .before .before .before .before .before .before .before .n .given .1)) (rw (c .before .before .before .before .before .before .before .before .before .before .before .before .before .before .before .is-float .ensures ∙ ap isFloat (c .before .before .before .before .before .before .before .before .before .before .before .before .before .before .before .before .type-at .ensures ∙ dest-type _ _)) at (sym (c .before .before .before .before .before .is-copy .ensures) ∙ c .before .before .before .before .if1 .taken))) (c .before .before .generate-copy .ensures)
 
-cast-kind-requires : tie.Need-cast-kind-requires
-cast-kind-requires c κs = search needs
+cast-operand-requires : tie.Need-cast-operand-requires
+cast-operand-requires c κs = (c .before .before .before .before .before .before .before .before .before .before .before .before .before .before .before .before .before .pre .0, (told kindResultSays (rw (c .before .before .before .before .before .before .before .before .before .before .operand-at .ensures) at (c .before .before .before .before .before .before .before .before .before .operand-kind .ensures)) (c .before .before .before .before .before .before .before .kind .given .1)))
 
 returns-4 : tie.Need-returns-4
-unfolding generateCast
-returns-4 c = simp (← c .before .before .before .before .before .before .before .before .before .before .before .before .operand-kind .ensures, c .before .before .before .before .before .before .before .before .before .before .k .given .1, ← c .before .before .before .before .before .before .before .size .ensures, c .before .before .before .before .before .size2 .given .1, ← c .before .before .before .is-float .ensures, ← c .before .before .is-copy .ensures, c .before .if1 .left, c .cast-kind .ensures) (rw (c .before .before .before .is-float .ensures) (cast-records _ _ _ _ _))
+returns-4 c = no-list (no-source _ _ _ (told kindResultSays (rw (c .before .before .before .before .before .before .before .before .before .before .before .before .before .before .operand-at .ensures) at (c .before .before .before .before .before .before .before .before .before .before .before .before .before .operand-kind .ensures)) (c .before .before .before .before .before .before .before .before .before .before .before .kind .given .1)) (told numberSays (c .before .before .before .before .before .before .before .before .before .size .ensures ∙ ap typeSize (c .before .before .before .before .before .before .before .before .before .before .before .before .before .before .before .before .type-at .ensures ∙ dest-type _ _)) (c .before .before .before .before .before .before .before .n .given .1)) (rw (c .before .before .before .before .before .before .before .before .before .before .before .before .before .before .before .is-float .ensures ∙ ap isFloat (c .before .before .before .before .before .before .before .before .before .before .before .before .before .before .before .before .type-at .ensures ∙ dest-type _ _)) at (sym (c .before .before .before .before .before .is-copy .ensures) ∙ c .before .before .before .before .if1 .left)) (told sourceResultSays (c .before .before .before .cast-operand .ensures) (c .before .number3 .given .1)))
+
+cast-between-requires : tie.Need-cast-between-requires
+cast-between-requires c κs = (c .before .before .before .before .before .before .before .before .before .before .before .before .before .before .before .before .before .before .before .before .before .before .pre .0, rw (c .before .before .before .before .before .before .before .before .before .before .before .before .before .before .before .before .is-float .ensures ∙ ap isFloat (c .before .before .before .before .before .before .before .before .before .before .before .before .before .before .before .before .before .type-at .ensures ∙ dest-type _ _)) (ready-as (is-cast _ _ _ (told kindResultSays (rw (c .before .before .before .before .before .before .before .before .before .before .before .before .before .before .before .operand-at .ensures) at (c .before .before .before .before .before .before .before .before .before .before .before .before .before .before .operand-kind .ensures)) (c .before .before .before .before .before .before .before .before .before .before .before .before .kind .given .1)) (told numberSays (c .before .before .before .before .before .before .before .before .before .before .size .ensures ∙ ap typeSize (c .before .before .before .before .before .before .before .before .before .before .before .before .before .before .before .before .before .type-at .ensures ∙ dest-type _ _)) (c .before .before .before .before .before .before .before .before .n .given .1)) (rw (c .before .before .before .before .before .before .before .before .before .before .before .before .before .before .before .before .is-float .ensures ∙ ap isFloat (c .before .before .before .before .before .before .before .before .before .before .before .before .before .before .before .before .before .type-at .ensures ∙ dest-type _ _)) at (sym (c .before .before .before .before .before .before .is-copy .ensures) ∙ c .before .before .before .before .before .if1 .left)) (told sourceResultSays (c .before .before .before .before .cast-operand .ensures) (c .before .before .from .given .1))) (c .before .before .before .before .before .before .before .before .before .before .before .before .before .before .before .before .before .before .before .before .before .before .pre .1)))
+
+returns-5 : tie.Need-returns-5
+returns-5 c = makes-as (is-cast _ _ _ (told kindResultSays (rw (c .before .before .before .before .before .before .before .before .before .before .before .before .before .before .before .before .before .before .operand-at .ensures) at (c .before .before .before .before .before .before .before .before .before .before .before .before .before .before .before .before .before .operand-kind .ensures)) (c .before .before .before .before .before .before .before .before .before .before .before .before .before .before .before .kind .given .1)) (told numberSays (c .before .before .before .before .before .before .before .before .before .before .before .before .before .size .ensures ∙ ap typeSize (c .before .before .before .before .before .before .before .before .before .before .before .before .before .before .before .before .before .before .before .before .type-at .ensures ∙ dest-type _ _)) (c .before .before .before .before .before .before .before .before .before .before .before .n .given .1)) (rw (c .before .before .before .before .before .before .before .before .before .before .before .before .before .before .before .before .before .before .before .is-float .ensures ∙ ap isFloat (c .before .before .before .before .before .before .before .before .before .before .before .before .before .before .before .before .before .before .before .before .type-at .ensures ∙ dest-type _ _)) at (sym (c .before .before .before .before .before .before .before .before .before .is-copy .ensures) ∙ c .before .before .before .before .before .before .before .before .if1 .left)) (told sourceResultSays (c .before .before .before .before .before .before .before .cast-operand .ensures) (c .before .before .before .before .before .from .given .1))) (rw (c .before .before .before .before .before .before .before .before .before .before .before .before .before .before .before .before .before .before .before .is-float .ensures ∙ ap isFloat (c .before .before .before .before .before .before .before .before .before .before .before .before .before .before .before .before .before .before .before .before .type-at .ensures ∙ dest-type _ _)) at (c .before .before .cast-between .ensures))
 
 pub generate-cast-spec : {M : Type 1} → statement M
 generate-cast-spec =
     tie.close
     (tie.spec
-    operand-kind-requires
-    enum-known-k
-    enum-known-n
-    returns
-    size-requires
-    enum-known-size
-    enum-known-n-2
-    returns-2
-    is-float-requires
-    is-copy-requires
-    generate-copy-requires
-    returns-3
-    cast-kind-requires
-    returns-4)
+    (λ c. search needs) (λ c κs. search needs) (λ c κs. search needs) (λ c. search needs) (λ c κs. search needs) (λ c κs. search needs)
+    (λ c. search needs) (λ c. search needs) returns (λ c κs. search needs) (λ c. search needs) (λ c. search needs) returns-2 (λ c κs. search needs)
+    generate-copy-requires (λ c. search needs) returns-3 cast-operand-requires (λ c. search needs) (λ c. search needs) returns-4
+    cast-between-requires (λ c. search needs) returns-5)

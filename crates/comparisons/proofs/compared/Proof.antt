@@ -1,99 +1,27 @@
-use Rattle.codegen.specs.Arithmetic.{compared}
-use Rattle.records.specs.Records.{recordsOf}
+use Rattle.utils.proofs.Made.{told}
+use Rattle.comparisons.specs.Looks.{sidesSay}
+use Rattle.comparisons.proofs.Looks.{compared-refuses, compared-room, compared-makes, compared-counts}
 use borrow.Author.Needs.{needs}
 use Rattle.comparisons.proofs.compared.Statement.{statement}
 use Rattle.comparisons.proofs.compared.Tie as tie
 
-load-operand-requires : tie.Need-load-operand-requires
-load-operand-requires c κs = search needs
-
-enum-known-x : tie.Need-enum-known-x
-enum-known-x c = search needs
-
-enum-known-n : tie.Need-enum-known-n
-enum-known-n c = search needs
+put-compared-requires : tie.Need-put-compared-requires
+put-compared-requires c κs = compared-room _ _ _ _ _ _ _ _ _ _ (c .before .before .before .before .before .before .before .before .before .before .before .pre .1 .1 .1 .0) (told sidesSay (c .before .before .before .before .before .before .look-compared .ensures) (c .before .before .before .before .t .given .1)) (c .before .before .before .before .before .before .before .before .before .before .before .pre .1 .1 .1 .1) (c .before .if1 .taken)
 
 returns : tie.Need-returns
-unfolding compared recordsOf
-returns c = simp (← c .before .before .before .load-operand .ensures, c .before .n .given .1)
-
-load-operand-requires-2 : tie.Need-load-operand-requires-2
-load-operand-requires-2 c κs = search needs
-
-enum-known-y : tie.Need-enum-known-y
-enum-known-y c = search needs
-
-enum-known-n-2 : tie.Need-enum-known-n-2
-enum-known-n-2 c = search needs
+returns c =
+    compared-makes _ _ _ _ _ _ _ _ _ _ (c .before .before .before .before .before .before .before .before .before .before .before .before .before .before .pre .1 .1 .1 .0) (told sidesSay (c .before .before .before .before .before .before .before .before .before .look-compared .ensures) (c .before .before .before .before .before .before .before .t .given .1)) (c .before .before .before .before .before .records .ensures) (c .before .before .before .before .if1 .taken)
+    (c .before .before .put-compared .ensures)
 
 returns-2 : tie.Need-returns-2
-unfolding compared recordsOf
-returns-2 c = simp (← c .before .before .before .before .before .before .before .load-operand .ensures, c .before .before .before .before .before .x .given .1, ← c .before .before .before .load-operand2 .ensures, c .before .n2 .given .1)
-
-convert-var-requires : tie.Need-convert-var-requires
-convert-var-requires c κs = search needs
-
-enum-known-var : tie.Need-enum-known-var
-enum-known-var c = search needs
-
-enum-known-n-3 : tie.Need-enum-known-n-3
-enum-known-n-3 c = search needs
+returns-2 c = compared-counts _ _ _ _ _ _ _ _ _ _ (c .before .before .before .before .before .before .before .before .before .before .pre .1 .1 .1 .0) (told sidesSay (c .before .before .before .before .before .look-compared .ensures) (c .before .before .before .t .given .1)) (c .before .records .ensures) (c .if1 .left)
 
 returns-3 : tie.Need-returns-3
-unfolding compared recordsOf
-returns-3 c = simp (← c .before .before .before .before .before .before .before .before .before .before .before .load-operand .ensures, c .before .before .before .before .before .before .before .before .before .x .given .1, ← c .before .before .before .before .before .before .before .load-operand2 .ensures, c .before .before .before .before .before .y .given .1, ← c .before .before .before .convert-var .ensures, c .before .n3 .given .1)
-
-binary-requires : tie.Need-binary-requires
-binary-requires c κs = search needs
-
-set-requires : tie.Need-set-requires
-set-requires c κs = search needs
-
-var-size-requires : tie.Need-var-size-requires
-var-size-requires c κs = search needs
-
-enum-known-stored : tie.Need-enum-known-stored
-enum-known-stored c = search needs
-
-mov-requires : tie.Need-mov-requires
-mov-requires c κs = search needs
-
-five-requires : tie.Need-five-requires
-five-requires c κs = search needs
-
-enum-known-n-4 : tie.Need-enum-known-n-4
-enum-known-n-4 c = search needs
-
-returns-4 : tie.Need-returns-4
-unfolding compared recordsOf
-returns-4 c = simp (← c .before .before .before .before .before .before .before .before .before .before .before .before .before .before .before .before .before .before .before .load-operand .ensures, c .before .before .before .before .before .before .before .before .before .before .before .before .before .before .before .before .before .x .given .1, ← c .before .before .before .before .before .before .before .before .before .before .before .before .before .before .before .load-operand2 .ensures, c .before .before .before .before .before .before .before .before .before .before .before .before .before .y .given .1, ← c .before .before .before .before .before .before .before .before .before .before .before .convert-var .ensures, c .before .before .before .before .before .before .before .before .before .var .given .1, ← c .before .before .before .before .before .before .before .binary .ensures, ← c .before .before .before .before .before .before .set .ensures, ← c .before .before .before .before .before .var-size .ensures, c .before .before .before .stored .given .1, ← c .before .mov .ensures, c .five .ensures)
-
-returns-5 : tie.Need-returns-5
-unfolding compared recordsOf
-returns-5 c = simp (← c .before .before .before .before .before .before .before .before .before .before .before .before .before .before .before .before .before .load-operand .ensures, c .before .before .before .before .before .before .before .before .before .before .before .before .before .before .before .x .given .1, ← c .before .before .before .before .before .before .before .before .before .before .before .before .before .load-operand2 .ensures, c .before .before .before .before .before .before .before .before .before .before .before .y .given .1, ← c .before .before .before .before .before .before .before .before .before .convert-var .ensures, c .before .before .before .before .before .before .before .var .given .1, ← c .before .before .before .before .before .binary .ensures, ← c .before .before .before .before .set .ensures, ← c .before .before .before .var-size .ensures, c .before .n4 .given .1)
+returns-3 c = compared-refuses _ _ _ _ _ _ _ _ _ _ (c .before .before .before .before .before .before .before .before .pre .1 .1 .1 .0) (told sidesSay (c .before .before .before .look-compared .ensures) (c .before .n .given .1))
 
 pub compared-spec : {M : Type 1} → statement M
 compared-spec =
     tie.close
     (tie.spec
-    load-operand-requires
-    enum-known-x
-    enum-known-n
-    returns
-    load-operand-requires-2
-    enum-known-y
-    enum-known-n-2
-    returns-2
-    convert-var-requires
-    enum-known-var
-    enum-known-n-3
-    returns-3
-    binary-requires
-    set-requires
-    var-size-requires
-    enum-known-stored
-    mov-requires
-    five-requires
-    enum-known-n-4
-    returns-4
-    returns-5)
+    (λ c κs. search needs) (λ c. search needs) (λ c κs. search needs) put-compared-requires (λ c. search needs) (λ c. search needs) returns returns-2
+    returns-3)

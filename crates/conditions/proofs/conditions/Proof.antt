@@ -22,9 +22,6 @@ count-labels-requires c κs =
     let z : Counts [] (replicate 256 0) = record { long = length-replicate {A = ℕ} 256 0; each = λ l h. getD-replicate {A = ℕ} 256 l 0 0 h } in
     (c .before .before .before .before .pre .0, z)
 
-first-fault-requires : tie.Need-first-fault-requires
-first-fault-requires c κs = search needs
-
 returns-2 : tie.Need-returns-2
 unfolding verdict
 returns-2 c =
@@ -34,4 +31,5 @@ returns-2 c =
 pub conditions-spec : {M : Type 1} → statement M
 conditions-spec =
     tie.close
-    (tie.spec is-plain-head-requires returns count-labels-requires first-fault-requires returns-2)
+    (tie.spec
+    is-plain-head-requires returns count-labels-requires (λ c κs. search needs) returns-2)

@@ -8,4 +8,7 @@ returns-2 : tie.Need-returns-2
 returns-2 c = simp (c .if1 .left)
 
 pub total-of-spec : {M : Type 1} → statement M
-total-of-spec = tie.close (tie.spec returns returns-2)
+total-of-spec =
+    tie.close
+    (tie.spec
+    returns returns-2)

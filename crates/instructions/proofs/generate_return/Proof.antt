@@ -1,44 +1,34 @@
-use Rattle.records.specs.Records.{recordsOf}
-use Rattle.codegen.specs.Instructions.{generateReturn}
+use native.Mathlib.Omega.{arith}
+use Rattle.x86.proofs.Lists.{puts, first, done, both}
+use Rattle.utils.specs.Answers.{operandSays}
+use Rattle.instructions.specs.Looks.{returnOf}
+use Rattle.instructions.proofs.Looked.{return-looked}
+use Rattle.utils.proofs.Made.{told, has-room, makes, counts, refuses}
 use borrow.Author.Needs.{needs}
 use Rattle.instructions.proofs.generate_return.Statement.{statement}
 use Rattle.instructions.proofs.generate_return.Tie as tie
 
-return-register-requires : tie.Need-return-register-requires
-return-register-requires c κs = search needs
+put-load-requires : tie.Need-put-load-requires
+put-load-requires c κs = let h = has-room (returnOf _ _) (return-looked _ _ _) (told operandSays (c .before .before .before .before .before .before .before .source-at .ensures) (c .before .before .before .before .before .src .given .1)) (c .before .before .before .before .before .before .before .before .before .before .before .before .pre .1) (c .before .before .before .if1 .taken) in omega arith
 
-load-operand-requires : tie.Need-load-operand-requires
-load-operand-requires c κs = search needs
+add-func-epilogue : tie.Need-add-func-epilogue
+add-func-epilogue c = let h = has-room (returnOf _ _) (return-looked _ _ _) (told operandSays (c .before .before .before .before .before .before .before .before .before .before .before .source-at .ensures) (c .before .before .before .before .before .before .before .before .before .src .given .1)) (c .before .before .before .before .before .before .before .before .before .before .before .before .before .before .before .before .pre .1) (c .before .before .before .before .before .before .before .if1 .taken) in search needs
 
-enum-known-load : tie.Need-enum-known-load
-enum-known-load c = search needs
-
-mov-requires : tie.Need-mov-requires
-mov-requires c κs = search needs
-
-four-requires : tie.Need-four-requires
-four-requires c κs = search needs
-
-enum-known-n : tie.Need-enum-known-n
-enum-known-n c = search needs
+func-epilogue-requires : tie.Need-func-epilogue-requires
+func-epilogue-requires c κs = let h = has-room (returnOf _ _) (return-looked _ _ _) (told operandSays (c .before .before .before .before .before .before .before .before .before .before .before .source-at .ensures) (c .before .before .before .before .before .before .before .before .before .src .given .1)) (c .before .before .before .before .before .before .before .before .before .before .before .before .before .before .before .before .pre .1) (c .before .before .before .before .before .before .before .if1 .taken) in search needs
 
 returns : tie.Need-returns
-unfolding generateReturn recordsOf
-returns c = simp (← c .before .before .before .before .before .before .return-register .ensures, ← c .before .before .before .before .before .load-operand .ensures, c .before .before .before .load .given .1, ← c .before .mov .ensures, c .four .ensures)
+returns c = let h = has-room (returnOf _ _) (return-looked _ _ _) (told operandSays (c .before .before .before .before .before .before .before .before .before .before .before .before .before .before .source-at .ensures) (c .before .before .before .before .before .before .before .before .before .before .before .before .src .given .1)) (c .before .before .before .before .before .before .before .before .before .before .before .before .before .before .before .before .before .before .before .pre .1) (c .before .before .before .before .before .before .before .before .before .before .if1 .taken) in makes (returnOf _ _) (return-looked _ _ _) (told operandSays (c .before .before .before .before .before .before .before .before .before .before .before .before .before .before .source-at .ensures) (c .before .before .before .before .before .before .before .before .before .before .before .before .src .given .1)) (c .before .before .before .before .before .before .before .before .before .before .if1 .taken) (both _ _ _ _ _ _ _ (rw (c .before .before .before .before .before .before .before .before .return-register .ensures, c .before .before .before .before .before .before .before .operand-size .ensures) at (puts (first (c .before .before .before .before .before .before .put-load .ensures) done) (omega arith))) (c .before .before .func-epilogue .ensures) (omega arith) (omega arith))
 
 returns-2 : tie.Need-returns-2
-unfolding generateReturn recordsOf
-returns-2 c = simp (← c .before .before .before .before .return-register .ensures, ← c .before .before .before .load-operand .ensures, c .before .n .given .1)
+returns-2 c = counts (returnOf _ _) (return-looked _ _ _) (told operandSays (c .before .before .before .before .source-at .ensures) (c .before .before .src .given .1)) (c .if1 .left)
+
+returns-3 : tie.Need-returns-3
+returns-3 c = refuses (returnOf _ _) (return-looked _ _ _) (told operandSays (c .before .before .before .source-at .ensures) (c .before .n .given .1))
 
 pub generate-return-spec : {M : Type 1} → statement M
 generate-return-spec =
     tie.close
     (tie.spec
-    return-register-requires
-    load-operand-requires
-    enum-known-load
-    mov-requires
-    four-requires
-    enum-known-n
-    returns
-    returns-2)
+    (λ c. search needs) (λ c κs. search needs) (λ c. search needs) (λ c κs. search needs) (λ c. search needs) (λ c κs. search needs)
+    put-load-requires add-func-epilogue func-epilogue-requires (λ c. search needs) (λ c. search needs) returns returns-2 returns-3)

@@ -15,5 +15,4 @@ pub label-at-spec : {M : Type 1} → statement M
 label-at-spec =
     tie.close
     (tie.spec
-    returns
-    returns-2)
+    returns returns-2)

@@ -2,9 +2,6 @@ use borrow.Author.Needs.{needs}
 use Rattle.instructions.proofs.return_register.Statement.{statement}
 use Rattle.instructions.proofs.return_register.Tie as tie
 
-is-float-requires : tie.Need-is-float-requires
-is-float-requires c κs = search needs
-
 returns : tie.Need-returns
 returns c = simp (← c .before .is-float .ensures, c .if1 .taken)
 
@@ -15,6 +12,4 @@ pub return-register-spec : {M : Type 1} → statement M
 return-register-spec =
     tie.close
     (tie.spec
-    is-float-requires
-    returns
-    returns-2)
+    (λ c κs. search needs) returns returns-2)

@@ -1,113 +1,71 @@
-use Rattle.lister.proofs.Listing.{listed}
+use Prim.Native.Nat.{_+_, _*_, _≤_}
+use mathlib.Core.Path.{_≡_, refl, sym, _∙_}
 use native.Mathlib.Omega.{arith}
-use Rattle.lister.specs.Listed.{recordsListed}
-use Rattle.text.proofs.Parts.{parts-fit}
-use mathlib.Core.Path.{sym, _∙_}
+use lib.ListN.{length}
 use borrow.Author.Needs.{needs}
+use Rattle.text.specs.declared.input.Parts.{Parts}
+use Rattle.text.specs.Input.{splitOf}
+use Rattle.text.proofs.Parts.{parts-fit}
+use Rattle.text.proofs.Pieces.{refused-length, whole}
+use Rattle.lister.specs.Listing.{listingRecords}
+use Rattle.lister.proofs.Listing.{too-long, no-tables, parts-text, parts-records}
 use Rattle.lister.proofs.list.Statement.{statement}
 use Rattle.lister.proofs.list.Tie as tie
 
-split-requires : tie.Need-split-requires
-split-requires c κs = search needs
+-- the input has parts, which lie in it
+parts : (c : tie.After-n) → splitOf (c .before .before .before .before .args .input .now) ≡ Parts.Tables (c .n .given .0 .0)
+parts c = sym (c .before .before .split .ensures) ∙ c .n .given .1
 
-enum-told : tie.Need-enum-told
-enum-told c = search needs
-
-slice-aggregate-write-all : tie.Need-slice-aggregate-write-all
-slice-aggregate-write-all c = search needs
-
-write-all-requires : tie.Need-write-all-requires
-write-all-requires c κs = search needs
-
-enum-told-2 : tie.Need-enum-told-2
-enum-told-2 c = search needs
-
-write-refused-requires : tie.Need-write-refused-requires
-write-refused-requires c κs = search needs
-
-enum-known-n : tie.Need-enum-known-n
-enum-known-n c = search needs
+fits : (c : tie.After-n) → 8 + 8 * c .n .given .0 .0 ≤ length (c .before .before .before .before .args .input .now)
+fits c = parts-fit _ _ (parts c)
 
 mul-end : tie.Need-mul-end
-mul-end c =
-    let s = c .before .before .before in
-    omega (arith, parts-fit _ _ (sym (s .split .ensures) ∙ c .before .n .given .1), s .before .before .before .good)
+mul-end c = omega (arith, fits (c .before), c .before .before .before .before .before .good)
 
 add-end : tie.Need-add-end
-add-end c =
-    let s = c .before .before .before in
-    omega (arith, parts-fit _ _ (sym (s .split .ensures) ∙ c .before .n .given .1), s .before .before .before .good)
-
-sub-list-parts : tie.Need-sub-list-parts
-sub-list-parts c = search needs
-
-part-list-parts-start : tie.Need-part-list-parts-start
-part-list-parts-start c = search needs
+add-end c = omega (arith, fits (c .before), c .before .before .before .before .before .good)
 
 part-list-parts-end : tie.Need-part-list-parts-end
-part-list-parts-end c =
-    let s = c .before .before .before in
-    omega (arith, parts-fit _ _ (sym (s .split .ensures) ∙ c .before .n .given .1))
+part-list-parts-end c = omega (arith, fits (c .before))
 
 sub-list-parts-2 : tie.Need-sub-list-parts-2
-sub-list-parts-2 c =
-    let s = c .before .before .before .before in
-    omega (arith, parts-fit _ _ (sym (s .split .ensures) ∙ c .before .before .n .given .1))
+sub-list-parts-2 c = omega (arith, fits (c .before .before))
 
 part-list-parts-start-2 : tie.Need-part-list-parts-start-2
-part-list-parts-start-2 c =
-    let s = c .before .before .before .before in
-    omega (arith, parts-fit _ _ (sym (s .split .ensures) ∙ c .before .before .n .given .1))
-
-part-list-parts-end-2 : tie.Need-part-list-parts-end-2
-part-list-parts-end-2 c = search needs
-
-list-parts-requires : tie.Need-list-parts-requires
-list-parts-requires c κs = search needs
+part-list-parts-start-2 c = omega (arith, fits (c .before .before))
 
 returns : tie.Need-returns
-unfolding recordsListed
+unfolding listingRecords
 returns c =
-    let s = c .before .before .before .before in
-    rw (← s .split .ensures, c .before .before .enum-told .given .1)
+    let t = c .before .before in
+    let p = t .before .before in
+    let s = p .before .before in
+    let e = sym (p .split .ensures) ∙ t .enum-told .given .1 in
+    (rw e, whole _ (c .too-long-text .ensures) (too-long (s .args .input .now) e) (omega (arith, s .good)))
 
 returns-2 : tie.Need-returns-2
-unfolding recordsListed
+unfolding listingRecords
 returns-2 c =
-    let s = c .before .before .before in
-    rw (← s .split .ensures, c .before .enum-told2 .given .1)
-
-same-length : tie.Need-same-length
-same-length c = search needs
+    let t = c .before .before in
+    let p = t .before .before in
+    let s = p .before .before in
+    let e = sym (p .split .ensures) ∙ t .enum-told2 .given .1 in
+    (rw e, whole _ (c .refused-text .ensures) (no-tables (s .args .input .now) e) (omega (arith, refused-length 1 0, s .good)))
 
 returns-3 : tie.Need-returns-3
 returns-3 c =
-    let s = c .before .before .before .before .before .before .before .before .before in
-    let a = s .before .before .before .args in
-    listed (a .input .now) (a .records .now) _ (sym (s .split .ensures) ∙ c .before .before .before .before .before .before .before .n .given .1)
-    (c .before .before .list-parts .ensures)
+    let n = c .before .before .before .before .before .before in
+    let s = n .before .before .before .before in
+    let m = n .n .given .0 .0 in
+    let l = c .list-parts .ensures in (
+      parts-records (s .args .input .now) m (s .args .records .now) (parts n) (l .0),
+      (rw (parts-text (s .args .input .now) m (parts n)) at (l .1 .0), l .1 .1),
+    )
 
 pub list-spec : {M : Type 1} → statement M
 list-spec =
     tie.close
     (tie.spec
-    split-requires
-    enum-told
-    slice-aggregate-write-all
-    write-all-requires
-    enum-told-2
-    write-refused-requires
-    enum-known-n
-    mul-end
-    add-end
-    sub-list-parts
-    part-list-parts-start
-    part-list-parts-end
-    sub-list-parts-2
-    part-list-parts-start-2
-    part-list-parts-end-2
-    list-parts-requires
-    returns
-    returns-2
-    same-length
-    returns-3)
+    (λ c κs. search needs) (λ c. search needs) (λ c κs. search needs) (λ c. search needs) (λ c κs. search needs) (λ c. search needs) mul-end add-end
+    (λ c. search needs) (λ c. search needs) part-list-parts-end sub-list-parts-2 part-list-parts-start-2 (λ c. search needs) (λ c κs. search needs)
+    returns returns-2 returns-3)

@@ -1,30 +1,24 @@
+use Rattle.operations.specs.Loads.{sidesSay}
+use Rattle.utils.proofs.Made.{told, has-room, makes, counts, refuses}
+use Rattle.operations.proofs.Looked.{multiplication-looked}
 use borrow.Author.Needs.{needs}
-use Rattle.codegen.specs.Arithmetic.{multiplication, twoLoads}
-use Rattle.operations.specs.Loads.{twoLoaded}
 use Rattle.operations.proofs.multiplication.Statement.{statement}
 use Rattle.operations.proofs.multiplication.Tie as tie
 
-var-size-requires : tie.Need-var-size-requires
-var-size-requires c κs = search needs
-
-enum-known-size : tie.Need-enum-known-size
-enum-known-size c = search needs
-
-two-loads-requires : tie.Need-two-loads-requires
-two-loads-requires c κs = search needs
-
-enum-known-n : tie.Need-enum-known-n
-enum-known-n c = search needs
+put-two-loads-requires : tie.Need-put-two-loads-requires
+put-two-loads-requires c κs = has-room _ (multiplication-looked _ _ _ _) (told sidesSay (c .before .before .before .before .before .look-loads .ensures) (c .before .before .before .t .given .1)) (c .before .before .before .before .before .before .before .before .before .before .pre .1) (c .before .if1 .taken)
 
 returns : tie.Need-returns
-unfolding multiplication twoLoads twoLoaded
-returns c = simp (← c .before .before .before .before .var-size .ensures, c .before .before .size .given .1, c .two-loads .ensures)
+returns c = makes _ (multiplication-looked _ _ _ _) (told sidesSay (c .before .before .before .before .before .before .before .before .look-loads .ensures) (c .before .before .before .before .before .before .t .given .1)) (c .before .before .before .before .if1 .taken) (c .before .before .put-two-loads .ensures)
 
 returns-2 : tie.Need-returns-2
-unfolding multiplication twoLoads
-returns-2 c = simp (← c .before .before .before .var-size .ensures, c .before .n .given .1)
+returns-2 c = counts _ (multiplication-looked _ _ _ _) (told sidesSay (c .before .before .before .before .look-loads .ensures) (c .before .before .t .given .1)) (c .if1 .left)
+
+returns-3 : tie.Need-returns-3
+returns-3 c = refuses _ (multiplication-looked _ _ _ _) (told sidesSay (c .before .before .before .look-loads .ensures) (c .before .n .given .1))
 
 pub multiplication-spec : {M : Type 1} → statement M
 multiplication-spec =
     tie.close
-    (tie.spec var-size-requires enum-known-size two-loads-requires enum-known-n returns returns-2)
+    (tie.spec
+    (λ c κs. search needs) (λ c. search needs) put-two-loads-requires (λ c. search needs) (λ c. search needs) returns returns-2 returns-3)

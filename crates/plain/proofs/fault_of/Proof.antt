@@ -9,4 +9,7 @@ returns-2 : tie.Need-returns-2
 returns-2 c = simp (le-ltb _ _ (c .if1 .left))
 
 pub fault-of-spec : {M : Type 1} → statement M
-fault-of-spec = tie.close (tie.spec returns returns-2)
+fault-of-spec =
+    tie.close
+    (tie.spec
+    returns returns-2)

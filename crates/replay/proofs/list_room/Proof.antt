@@ -6,4 +6,7 @@ returns : tie.Need-returns
 returns c = zeros 1572864
 
 pub list-room-spec : {M : Type 1} → statement M
-list-room-spec = tie.close (tie.spec returns)
+list-room-spec =
+    tie.close
+    (tie.spec
+    returns)

@@ -6,4 +6,7 @@ returns : tie.Need-returns
 returns c = zeros 66240
 
 pub records-room-spec : {M : Type 1} → statement M
-records-room-spec = tie.close (tie.spec returns)
+records-room-spec =
+    tie.close
+    (tie.spec
+    returns)

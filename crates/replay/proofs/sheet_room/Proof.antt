@@ -6,4 +6,7 @@ returns : tie.Need-returns
 returns c = zeros 458752
 
 pub sheet-room-spec : {M : Type 1} → statement M
-sheet-room-spec = tie.close (tie.spec returns)
+sheet-room-spec =
+    tie.close
+    (tie.spec
+    returns)

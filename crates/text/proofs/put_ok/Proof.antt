@@ -1,29 +1,25 @@
 use native.Mathlib.Omega.{arith}
-use Rattle.text.specs.Text.{okWord}
-use Rattle.cells.specs.Cells.{write}
-use lib.Seq.{sets-eq}
-use mathlib.Core.Path.{refl}
-use lib.ListN.{length-set}
 use borrow.Author.Needs.{needs}
+use Rattle.text.proofs.Pieces.{ok-put, digits-end}
 use Rattle.text.proofs.put_ok.Statement.{statement}
 use Rattle.text.proofs.put_ok.Tie as tie
 
-slice-write-line : tie.Need-slice-write-line
-slice-write-line c = search needs
-
-slice-write-line-2 : tie.Need-slice-write-line-2
-slice-write-line-2 c = simp length-set (omega arith)
-
-slice-write-line-3 : tie.Need-slice-write-line-3
-slice-write-line-3 c = search needs
-
-same-length : tie.Need-same-length
-same-length c = search needs
+put-byte-requires : tie.Need-put-byte-requires
+put-byte-requires c κs =
+    let p = c .before .before .before in
+    let o = p .before .before .before .before in
+    let s = o .before .before .before .before in
+    omega (arith, digits-end _ _ (p .put-digits .ensures), p .put-digits .kept .0, o .put-word .ensures .behind, o .put-word .kept .0, s .pre)
 
 returns : tie.Need-returns
-unfolding write
-returns c = record { behind = refl; text = sets-eq okWord (c .args .line .now) 0 (c .pre) }
+returns c =
+    let b = c .before .before in
+    let p = b .before .before .before .before in
+    let o = p .before .before .before .before in
+    ok-put _ (o .before .before .before .before .pre) (o .put-word .ensures) (p .put-digits .ensures) (b .put-byte .ensures)
 
 pub put-ok-spec : {M : Type 1} → statement M
 put-ok-spec =
-    tie.close (tie.spec slice-write-line slice-write-line-2 slice-write-line-3 same-length returns)
+    tie.close
+    (tie.spec
+    (λ c. search needs) (λ c κs. search needs) (λ c κs. search needs) put-byte-requires (λ c. search needs) returns)

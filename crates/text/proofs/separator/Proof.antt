@@ -9,4 +9,7 @@ returns-2 : tie.Need-returns-2
 returns-2 c = rw (ne-eqb _ _ (c .if1 .left))
 
 pub separator-spec : {M : Type 1} → statement M
-separator-spec = tie.close (tie.spec returns returns-2)
+separator-spec =
+    tie.close
+    (tie.spec
+    returns returns-2)

@@ -4,39 +4,6 @@ use borrow.Author.Needs.{needs}
 use Rattle.utils.proofs.convert_operand.Statement.{statement}
 use Rattle.utils.proofs.convert_operand.Tie as tie
 
-enum-known-op : tie.Need-enum-known-op
-enum-known-op c = search needs
-
-convert-var-requires : tie.Need-convert-var-requires
-convert-var-requires c κs = search needs
-
-enum-known-op-2 : tie.Need-enum-known-op-2
-enum-known-op-2 c = search needs
-
-enum-known-op-3 : tie.Need-enum-known-op-3
-enum-known-op-3 c = search needs
-
-float-short-requires : tie.Need-float-short-requires
-float-short-requires c κs = search needs
-
-enum-told : tie.Need-enum-told
-enum-told c = search needs
-
-enum-known-n : tie.Need-enum-known-n
-enum-known-n c = search needs
-
-enum-known-op-4 : tie.Need-enum-known-op-4
-enum-known-op-4 c = search needs
-
-enum-told-2 : tie.Need-enum-told-2
-enum-told-2 c = search needs
-
-enum-told-3 : tie.Need-enum-told-3
-enum-told-3 c = search needs
-
-enum-told-4 : tie.Need-enum-told-4
-enum-told-4 c = search needs
-
 returns : tie.Need-returns
 unfolding convertOperand
 returns c = simp (c .before .before .op .given .1, c .convert-var .ensures)
@@ -77,23 +44,6 @@ pub convert-operand-spec : {M : Type 1} → statement M
 convert-operand-spec =
     tie.close
     (tie.spec
-    enum-known-op
-    convert-var-requires
-    enum-known-op-2
-    enum-known-op-3
-    float-short-requires
-    enum-told
-    enum-known-n
-    enum-known-op-4
-    enum-told-2
-    enum-told-3
-    enum-told-4
-    returns
-    returns-2
-    returns-3
-    returns-4
-    returns-5
-    returns-6
-    returns-7
-    returns-8
-    returns-9)
+    (λ c. search needs) (λ c κs. search needs) (λ c. search needs) (λ c. search needs) (λ c κs. search needs) (λ c. search needs) (λ c. search needs)
+    (λ c. search needs) (λ c. search needs) (λ c. search needs) (λ c. search needs) returns returns-2 returns-3 returns-4 returns-5 returns-6
+    returns-7 returns-8 returns-9)

@@ -3,15 +3,6 @@ use borrow.Author.Needs.{needs}
 use Rattle.utils.proofs.convert_var.Statement.{statement}
 use Rattle.utils.proofs.convert_var.Tie as tie
 
-displacement-requires : tie.Need-displacement-requires
-displacement-requires c κs = search needs
-
-enum-known-disp : tie.Need-enum-known-disp
-enum-known-disp c = search needs
-
-enum-known-n : tie.Need-enum-known-n
-enum-known-n c = search needs
-
 returns : tie.Need-returns
 unfolding convertVar
 returns c = simp (← c .before .before .before .displacement .ensures, c .before .disp .given .1)
@@ -22,4 +13,6 @@ returns-2 c = simp (← c .before .before .before .displacement .ensures, c .bef
 
 pub convert-var-spec : {M : Type 1} → statement M
 convert-var-spec =
-    tie.close (tie.spec displacement-requires enum-known-disp enum-known-n returns returns-2)
+    tie.close
+    (tie.spec
+    (λ c κs. search needs) (λ c. search needs) (λ c. search needs) returns returns-2)

@@ -4,15 +4,6 @@ use borrow.Author.Needs.{needs}
 use Rattle.utils.proofs.displacement.Statement.{statement}
 use Rattle.utils.proofs.displacement.Tie as tie
 
-mul-negated : tie.Need-mul-negated
-mul-negated c = search needs
-
-shared-slice-read-negated : tie.Need-shared-slice-read-negated
-shared-slice-read-negated c = search needs
-
-negated-requires : tie.Need-negated-requires
-negated-requires c κs = search needs
-
 returns : tie.Need-returns
 unfolding displacement
 returns c = simp (lt-ltb _ _ (c .before .before .if1 .taken), c .negated .ensures)
@@ -23,4 +14,6 @@ returns-2 c = simp (le-ltb _ _ (c .if1 .left))
 
 pub displacement-spec : {M : Type 1} → statement M
 displacement-spec =
-    tie.close (tie.spec mul-negated shared-slice-read-negated negated-requires returns returns-2)
+    tie.close
+    (tie.spec
+    (λ c. search needs) (λ c. search needs) (λ c κs. search needs) returns returns-2)

@@ -7,15 +7,6 @@ use borrow.Author.Needs.{needs}
 use Rattle.utils.proofs.float_short.Statement.{statement}
 use Rattle.utils.proofs.float_short.Tie as tie
 
-sub-if2 : tie.Need-sub-if2
-sub-if2 c = search needs
-
-add-cell-at : tie.Need-add-cell-at
-add-cell-at c = search needs
-
-cell-at-requires : tie.Need-cell-at-requires
-cell-at-requires c κs = search needs
-
 returns : tie.Need-returns
 unfolding floatShort tablesOf
 returns c = simp (lt-ltb _ _ (c .before .if2 .taken), c .cell-at .ensures)
@@ -30,4 +21,6 @@ returns-3 c = simp (no-floats (c .before .before .before .args .id) (length (c .
 
 pub float-short-spec : {M : Type 1} → statement M
 float-short-spec =
-    tie.close (tie.spec sub-if2 add-cell-at cell-at-requires returns returns-2 returns-3)
+    tie.close
+    (tie.spec
+    (λ c. search needs) (λ c. search needs) (λ c κs. search needs) returns returns-2 returns-3)

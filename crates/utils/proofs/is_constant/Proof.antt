@@ -3,14 +3,11 @@ use borrow.Author.Needs.{needs}
 use Rattle.utils.proofs.is_constant.Statement.{statement}
 use Rattle.utils.proofs.is_constant.Tie as tie
 
-enum-told : tie.Need-enum-told
-enum-told c = search needs
-
-returns : tie.Need-returns
-returns c = search needs
-
 returns-2 : tie.Need-returns-2
 returns-2 c = not-constant (c .before .args .src) (c .match .keys2)
 
 pub is-constant-spec : {M : Type 1} → statement M
-is-constant-spec = tie.close (tie.spec enum-told returns returns-2)
+is-constant-spec =
+    tie.close
+    (tie.spec
+    (λ c. search needs) (λ c. search needs) returns-2)

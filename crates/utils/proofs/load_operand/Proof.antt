@@ -1,28 +1,30 @@
-use mathlib.Core.Path.{_∙_}
-use Rattle.utils.proofs.Rest.{not-data}
-use Rattle.codegen.specs.Utils.{loadOperand}
+use Rattle.utils.specs.Answers.{operandSays}
+use Rattle.utils.proofs.Sources.{load-looked}
+use Rattle.utils.proofs.Made.{told, has-room, makes, counts, refuses}
+use Rattle.x86.proofs.Lists.{first, done, puts}
 use borrow.Author.Needs.{needs}
 use Rattle.utils.proofs.load_operand.Statement.{statement}
 use Rattle.utils.proofs.load_operand.Tie as tie
 
-enum-known-op : tie.Need-enum-known-op
-enum-known-op c = search needs
-
-load-string-requires : tie.Need-load-string-requires
-load-string-requires c κs = search needs
+put-load-requires : tie.Need-put-load-requires
+put-load-requires c κs =
+    has-room _ (load-looked _ _ _) (told operandSays (c .before .before .before .before .before .before .source .ensures) (c .before .before .before .before .src .given .1))
+    (c .before .before .before .before .before .before .before .before .before .before .pre) (c .before .before .if1 .taken)
 
 returns : tie.Need-returns
-unfolding loadOperand
-returns c = simp (c .before .before .op .given .1, ← c .load-string .ensures)
-
-load-value-requires : tie.Need-load-value-requires
-load-value-requires c κs = search needs
+returns c =
+    makes _ (load-looked _ _ _) (told operandSays (c .before .before .before .before .before .before .before .before .before .source .ensures) (c .before .before .before .before .before .before .before .src .given .1)) (c .before .before .before .before .before .if1 .taken)
+    (rw (c .before .before .before .size .ensures) at (puts (first (c .before .before .put-load .ensures) done) (has-room _ (load-looked _ _ _) (told operandSays (c .before .before .before .before .before .before .before .before .before .source .ensures) (c .before .before .before .before .before .before .before .src .given .1)) (c .before .before .before .before .before .before .before .before .before .before .before .before .before .pre) (c .before .before .before .before .before .if1 .taken))))
 
 returns-2 : tie.Need-returns-2
-returns-2 c =
-    c .load-value .ensures
-    ∙ not-data _ (c .before .before .before .before .args .reg) (c .before .before .before .before .args .op) (c .before .before .before .before .args .size) (c .before .match .keys2)
+returns-2 c = counts _ (load-looked _ _ _) (told operandSays (c .before .before .before .before .source .ensures) (c .before .before .src .given .1)) (c .if1 .left)
+
+returns-3 : tie.Need-returns-3
+returns-3 c = refuses _ (load-looked _ _ _) (told operandSays (c .before .before .before .source .ensures) (c .before .n .given .1))
 
 pub load-operand-spec : {M : Type 1} → statement M
 load-operand-spec =
-    tie.close (tie.spec enum-known-op load-string-requires returns load-value-requires returns-2)
+    tie.close
+    (tie.spec
+    (λ c κs. search needs) (λ c. search needs) (λ c κs. search needs) put-load-requires (λ c. search needs) (λ c. search needs) returns returns-2
+    returns-3)

@@ -23,4 +23,7 @@ returns-5 : tie.Need-returns-5
 returns-5 c = odd-width _ (c .match .rest .0 .0 .0 .1) (c .match .rest .0 .0 .1) (c .match .rest .0 .1) (c .match .rest .1)
 
 pub size-from-spec : {M : Type 1} → statement M
-size-from-spec = tie.close (tie.spec returns returns-2 returns-3 returns-4 returns-5)
+size-from-spec =
+    tie.close
+    (tie.spec
+    returns returns-2 returns-3 returns-4 returns-5)

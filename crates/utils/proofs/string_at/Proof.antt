@@ -6,9 +6,6 @@ use borrow.Author.Needs.{needs}
 use Rattle.utils.proofs.string_at.Statement.{statement}
 use Rattle.utils.proofs.string_at.Tie as tie
 
-cell-at-requires : tie.Need-cell-at-requires
-cell-at-requires c κs = search needs
-
 returns : tie.Need-returns
 unfolding stringAt tablesOf
 returns c = simp (lt-ltb _ _ (c .before .before .if1 .taken), ← c .before .cell-at .ensures, lt-ltb _ _ (c .if2 .taken))
@@ -22,4 +19,7 @@ unfolding stringAt tablesOf
 returns-3 c = simp (le-ltb _ _ (c .if1 .left), le-ltb (c .before .before .before .args .id) 0 (omega arith))
 
 pub string-at-spec : {M : Type 1} → statement M
-string-at-spec = tie.close (tie.spec cell-at-requires returns returns-2 returns-3)
+string-at-spec =
+    tie.close
+    (tie.spec
+    (λ c κs. search needs) returns returns-2 returns-3)

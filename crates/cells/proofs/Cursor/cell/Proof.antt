@@ -4,12 +4,6 @@ use borrow.Author.Needs.{needs}
 use Rattle.cells.proofs.Cursor.cell.Statement.{statement}
 use Rattle.cells.proofs.Cursor.cell.Tie as tie
 
-cell-at-requires : tie.Need-cell-at-requires
-cell-at-requires c κs = search needs
-
-add-t9 : tie.Need-add-t9
-add-t9 c = search needs
-
 returns : tie.Need-returns
 unfolding readCell
 returns c = simp (lt-ltb _ _ (c .before .if1 .taken), c .cell-at .ensures)
@@ -19,4 +13,7 @@ unfolding readCell
 returns-2 c = simp (le-ltb _ _ (c .if1 .left))
 
 pub cell-spec : {M : Type 1} → statement M
-cell-spec = tie.close (tie.spec cell-at-requires add-t9 returns returns-2)
+cell-spec =
+    tie.close
+    (tie.spec
+    (λ c κs. search needs) (λ c. search needs) returns returns-2)

@@ -4,12 +4,6 @@ use borrow.Author.Needs.{needs}
 use Rattle.cells.proofs.Cursor.within.Statement.{statement}
 use Rattle.cells.proofs.Cursor.within.Tie as tie
 
-cell-requires : tie.Need-cell-requires
-cell-requires c κs = search needs
-
-enum-known-v : tie.Need-enum-known-v
-enum-known-v c = search needs
-
 returns : tie.Need-returns
 unfolding readWithin
 returns c =
@@ -21,9 +15,6 @@ unfolding readWithin
 returns-2 c =
     let p = c .before .before .before in
     simp (← p .before .before .cell .ensures, p .v .given .1, le-ltb _ _ (c .before .if1 .left), lt-ltb _ _ (c .if2 .taken))
-
-enum-known-m : tie.Need-enum-known-m
-enum-known-m c = search needs
 
 returns-3 : tie.Need-returns-3
 unfolding readWithin
@@ -38,4 +29,5 @@ returns-4 c = simp (← c .before .before .before .cell .ensures, c .before .m .
 pub within-spec : {M : Type 1} → statement M
 within-spec =
     tie.close
-    (tie.spec cell-requires enum-known-v returns returns-2 enum-known-m returns-3 returns-4)
+    (tie.spec
+    (λ c κs. search needs) (λ c. search needs) returns returns-2 (λ c. search needs) returns-3 returns-4)

@@ -5,26 +5,14 @@ use borrow.Author.Needs.{needs}
 use Rattle.conditions.proofs.body.count_label.Statement.{statement}
 use Rattle.conditions.proofs.body.count_label.Tie as tie
 
-enum-known-instr : tie.Need-enum-known-instr
-enum-known-instr c = search needs
-
 returns : tie.Need-returns
 returns c = no-label (c .before .args .instr) (c .before .args .counts .now) (c .match .keys2)
 
 returns-2 : tie.Need-returns-2
 returns-2 c = simp (c .before .before .instr .given .1, le-leb 256 _ (c .if1 .taken))
 
-mul-counts : tie.Need-mul-counts
-mul-counts c = search needs
-
-element-copy-out-counts : tie.Need-element-copy-out-counts
-element-copy-out-counts c = search needs
-
 add-counts : tie.Need-add-counts
 add-counts c = omega (arith, c .before .before .before .before .before .pre .each (c .before .before .before .instr .given .0 .0) (omega arith))
-
-element-write-counts : tie.Need-element-write-counts
-element-write-counts c = search needs
 
 returns-3 : tie.Need-returns-3
 returns-3 c = simp (c .before .before .before .instr .given .1, lt-leb 256 _ (c .before .if1 .left))
@@ -33,11 +21,4 @@ pub count-label-spec : {M : Type 1} → statement M
 count-label-spec =
     tie.close
     (tie.spec
-    enum-known-instr
-    returns
-    returns-2
-    mul-counts
-    element-copy-out-counts
-    add-counts
-    element-write-counts
-    returns-3)
+    (λ c. search needs) returns returns-2 (λ c. search needs) (λ c. search needs) add-counts (λ c. search needs) returns-3)

@@ -47,15 +47,5 @@ pub count-labels-spec : {M : Type 1} → statement M
 count-labels-spec =
     tie.close
     (tie.spec
-    Inv-loop
-    μ-loop
-    cell-at-requires
-    body-from-requires
-    loop-holds
-    instr-at-requires
-    count-label-requires
-    behind-requires
-    sub-left
-    loop-less
-    loop-again
-    returns)
+    Inv-loop μ-loop cell-at-requires body-from-requires loop-holds instr-at-requires count-label-requires behind-requires sub-left loop-less
+    loop-again returns)

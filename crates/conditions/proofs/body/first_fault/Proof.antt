@@ -66,17 +66,5 @@ pub first-fault-spec : {M : Type 1} → statement M
 first-fault-spec =
     tie.close
     (tie.spec
-    Inv-loop
-    μ-loop
-    cell-at-requires
-    body-from-requires
-    loop-holds
-    instr-at-requires
-    is-plain-instr-requires
-    returns
-    behind-requires
-    sub-left
-    add-k
-    loop-less
-    loop-again
-    returns-2)
+    Inv-loop μ-loop cell-at-requires body-from-requires loop-holds instr-at-requires is-plain-instr-requires returns behind-requires sub-left add-k
+    loop-less loop-again returns-2)

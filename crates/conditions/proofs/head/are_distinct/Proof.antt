@@ -69,14 +69,4 @@ pub are-distinct-spec : {M : Type 1} → statement M
 are-distinct-spec =
     tie.close
     (tie.spec
-    Inv-loop
-    μ-loop
-    loop-holds
-    var-at-requires
-    sub-left
-    add-cell
-    is-absent-requires
-    returns
-    loop-less
-    loop-again
-    returns-2)
+    Inv-loop μ-loop loop-holds var-at-requires sub-left add-cell is-absent-requires returns loop-less loop-again returns-2)

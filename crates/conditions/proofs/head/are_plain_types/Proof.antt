@@ -27,9 +27,6 @@ loop-holds c = (record { is = refl }, c .before .pre)
 type-at-requires : tie.Need-type-at-requires Inv-loop μ-loop
 type-at-requires c κs = omega (arith, c .before .loop .inv .1, c .loop-test .taken)
 
-is-plain-code-requires : tie.Need-is-plain-code-requires Inv-loop μ-loop
-is-plain-code-requires c κs = search needs
-
 returns : tie.Need-returns Inv-loop μ-loop
 unfolding every typesAt
 returns c =
@@ -71,14 +68,4 @@ pub are-plain-types-spec : {M : Type 1} → statement M
 are-plain-types-spec =
     tie.close
     (tie.spec
-    Inv-loop
-    μ-loop
-    loop-holds
-    type-at-requires
-    is-plain-code-requires
-    returns
-    add-cell
-    sub-left
-    loop-less
-    loop-again
-    returns-2)
+    Inv-loop μ-loop loop-holds type-at-requires (λ c κs. search needs) returns add-cell sub-left loop-less loop-again returns-2)

@@ -26,9 +26,6 @@ loop-holds c = (record { is = refl }, c .before .pre .1)
 var-at-requires : tie.Need-var-at-requires Inv-loop μ-loop
 var-at-requires c κs = omega (arith, c .before .loop .inv .1, c .loop-test .taken)
 
-is-scalar-var-requires : tie.Need-is-scalar-var-requires Inv-loop μ-loop
-is-scalar-var-requires c κs = search needs
-
 returns : tie.Need-returns Inv-loop μ-loop
 unfolding every varsAt
 returns c =
@@ -70,14 +67,4 @@ pub are-scalar-vars-spec : {M : Type 1} → statement M
 are-scalar-vars-spec =
     tie.close
     (tie.spec
-    Inv-loop
-    μ-loop
-    loop-holds
-    var-at-requires
-    is-scalar-var-requires
-    returns
-    add-cell
-    sub-left
-    loop-less
-    loop-again
-    returns-2)
+    Inv-loop μ-loop loop-holds var-at-requires (λ c κs. search needs) returns add-cell sub-left loop-less loop-again returns-2)

@@ -63,13 +63,4 @@ pub is-absent-spec : {M : Type 1} → statement M
 is-absent-spec =
     tie.close
     (tie.spec
-    Inv-loop
-    μ-loop
-    loop-holds
-    var-at-requires
-    returns
-    add-cell
-    sub-left
-    loop-less
-    loop-again
-    returns-2)
+    Inv-loop μ-loop loop-holds var-at-requires returns add-cell sub-left loop-less loop-again returns-2)

@@ -8,21 +8,6 @@ use borrow.Author.Needs.{needs}
 use Rattle.conditions.proofs.head.is_plain_head.Statement.{statement}
 use Rattle.conditions.proofs.head.is_plain_head.Tie as tie
 
-cell-at-requires : tie.Need-cell-at-requires
-cell-at-requires c κs = search needs
-
-cell-at-requires-2 : tie.Need-cell-at-requires-2
-cell-at-requires-2 c κs = search needs
-
-mul-from : tie.Need-mul-from
-mul-from c = search needs
-
-add-from : tie.Need-add-from
-add-from c = search needs
-
-are-plain-types-requires : tie.Need-are-plain-types-requires
-are-plain-types-requires c κs = search needs
-
 returns : tie.Need-returns
 returns c =
     let r1 = c in
@@ -30,12 +15,6 @@ returns c =
     let s = q .before .before .args .sheet .now in
     let e1 = sym (rw (q .cell-at .ensures) at (r1 .before .are-plain-types .ensures)) ∙ not-true _ (r1 .if1 .taken) in
     types-fault s e1
-
-type-at-requires : tie.Need-type-at-requires
-type-at-requires c κs = search needs
-
-is-plain-return-requires : tie.Need-is-plain-return-requires
-is-plain-return-requires c κs = search needs
 
 returns-2 : tie.Need-returns-2
 returns-2 c =
@@ -61,9 +40,6 @@ returns-3 c =
     let n = r1 .before .before .cell-at2 .ensures in
     count-fault s e1 e2 (omega (arith, n, r3 .if3 .taken))
 
-are-distinct-requires : tie.Need-are-distinct-requires
-are-distinct-requires c κs = search needs
-
 returns-4 : tie.Need-returns-4
 returns-4 c =
     let r4 = c in
@@ -78,9 +54,6 @@ returns-4 c =
     let n = r1 .before .before .cell-at2 .ensures in
     let e4 = sym (rw (q .cell-at .ensures, n) at (r4 .before .are-distinct .ensures)) ∙ not-true _ (r4 .if4 .taken) in
     distinct-fault s e1 e2 (omega (arith, n, r3 .if3 .left)) e4
-
-are-scalar-vars-requires : tie.Need-are-scalar-vars-requires
-are-scalar-vars-requires c κs = search needs
 
 returns-5 : tie.Need-returns-5
 returns-5 c =
@@ -101,17 +74,5 @@ pub is-plain-head-spec : {M : Type 1} → statement M
 is-plain-head-spec =
     tie.close
     (tie.spec
-    cell-at-requires
-    cell-at-requires-2
-    mul-from
-    add-from
-    are-plain-types-requires
-    returns
-    type-at-requires
-    is-plain-return-requires
-    returns-2
-    returns-3
-    are-distinct-requires
-    returns-4
-    are-scalar-vars-requires
-    returns-5)
+    (λ c κs. search needs) (λ c κs. search needs) (λ c. search needs) (λ c. search needs) (λ c κs. search needs) returns (λ c κs. search needs)
+    (λ c κs. search needs) returns-2 returns-3 (λ c κs. search needs) returns-4 (λ c κs. search needs) returns-5)

@@ -2,12 +2,6 @@ use borrow.Author.Needs.{needs}
 use Rattle.conditions.proofs.instrs.is_condition.Statement.{statement}
 use Rattle.conditions.proofs.instrs.is_condition.Tie as tie
 
-is-plain-operand-requires : tie.Need-is-plain-operand-requires
-is-plain-operand-requires c κs = search needs
-
-is-bool-requires : tie.Need-is-bool-requires
-is-bool-requires c κs = search needs
-
 returns : tie.Need-returns
 returns c = simp (← c .before .before .is-plain-operand .ensures, c .before .if1 .taken, ← c .is-bool .ensures)
 
@@ -16,4 +10,6 @@ returns-2 c = simp (← c .before .is-plain-operand .ensures, c .if1 .left)
 
 pub is-condition-spec : {M : Type 1} → statement M
 is-condition-spec =
-    tie.close (tie.spec is-plain-operand-requires is-bool-requires returns returns-2)
+    tie.close
+    (tie.spec
+    (λ c κs. search needs) (λ c κs. search needs) returns returns-2)

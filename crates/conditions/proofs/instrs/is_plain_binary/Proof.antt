@@ -7,27 +7,6 @@ use borrow.Author.Needs.{needs}
 use Rattle.conditions.proofs.instrs.is_plain_binary.Statement.{statement}
 use Rattle.conditions.proofs.instrs.is_plain_binary.Tie as tie
 
-is-plain-mul-requires : tie.Need-is-plain-mul-requires
-is-plain-mul-requires c κs = search needs
-
-is-plain-div-requires : tie.Need-is-plain-div-requires
-is-plain-div-requires c κs = search needs
-
-is-plain-sum-requires : tie.Need-is-plain-sum-requires
-is-plain-sum-requires c κs = search needs
-
-is-bool-type-requires : tie.Need-is-bool-type-requires
-is-bool-type-requires c κs = search needs
-
-is-same-requires : tie.Need-is-same-requires
-is-same-requires c κs = search needs
-
-is-plain-sum-requires-2 : tie.Need-is-plain-sum-requires-2
-is-plain-sum-requires-2 c κs = search needs
-
-is-plain-rem-requires : tie.Need-is-plain-rem-requires
-is-plain-rem-requires c κs = search needs
-
 returns : tie.Need-returns
 unfolding isPlainBinary binaryOp
 returns c = simp (c .before .match .keys1, ← c .is-plain-mul .ensures)
@@ -70,18 +49,5 @@ pub is-plain-binary-spec : {M : Type 1} → statement M
 is-plain-binary-spec =
     tie.close
     (tie.spec
-    is-plain-mul-requires
-    is-plain-div-requires
-    is-plain-sum-requires
-    is-bool-type-requires
-    is-same-requires
-    is-plain-sum-requires-2
-    is-plain-rem-requires
-    returns
-    returns-2
-    returns-3
-    returns-4
-    returns-5
-    returns-6
-    returns-7
-    returns-8)
+    (λ c κs. search needs) (λ c κs. search needs) (λ c κs. search needs) (λ c κs. search needs) (λ c κs. search needs) (λ c κs. search needs)
+    (λ c κs. search needs) returns returns-2 returns-3 returns-4 returns-5 returns-6 returns-7 returns-8)

@@ -7,12 +7,6 @@ use borrow.Author.Needs.{needs}
 use Rattle.conditions.proofs.instrs.is_plain_branch.Statement.{statement}
 use Rattle.conditions.proofs.instrs.is_plain_branch.Tie as tie
 
-is-condition-requires : tie.Need-is-condition-requires
-is-condition-requires c κs = search needs
-
-stands-requires : tie.Need-stands-requires
-stands-requires c κs = search needs
-
 returns : tie.Need-returns
 unfolding isPlainInstr
 returns c =
@@ -30,4 +24,7 @@ returns-2 c =
     sym (two-failed (isPlainOperand F (a .x)) (isBool (a .x)) (c .before .is-condition .ensures) (c .if1 .left) (leb 1 (labelCount (a .l) (F .body))))
 
 pub is-plain-branch-spec : {M : Type 1} → statement M
-is-plain-branch-spec = tie.close (tie.spec is-condition-requires stands-requires returns returns-2)
+is-plain-branch-spec =
+    tie.close
+    (tie.spec
+    (λ c κs. search needs) (λ c κs. search needs) returns returns-2)

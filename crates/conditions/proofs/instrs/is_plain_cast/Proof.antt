@@ -8,15 +8,6 @@ use borrow.Author.Needs.{needs}
 use Rattle.conditions.proofs.instrs.is_plain_cast.Statement.{statement}
 use Rattle.conditions.proofs.instrs.is_plain_cast.Tie as tie
 
-is-wide-requires : tie.Need-is-wide-requires
-is-wide-requires c κs = search needs
-
-bytes-requires : tie.Need-bytes-requires
-bytes-requires c κs = search needs
-
-short-if-long-requires : tie.Need-short-if-long-requires
-short-if-long-requires c κs = search needs
-
 returns : tie.Need-returns
 returns c =
     let a = c .before .before .before .before .before .args in
@@ -35,4 +26,5 @@ returns-3 c = simp (← c .before .is-wide .ensures, c .if1 .left)
 pub is-plain-cast-spec : {M : Type 1} → statement M
 is-plain-cast-spec =
     tie.close
-    (tie.spec is-wide-requires bytes-requires short-if-long-requires returns returns-2 returns-3)
+    (tie.spec
+    (λ c κs. search needs) (λ c κs. search needs) (λ c κs. search needs) returns returns-2 returns-3)

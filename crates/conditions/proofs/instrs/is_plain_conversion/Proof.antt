@@ -6,12 +6,6 @@ use borrow.Author.Needs.{needs}
 use Rattle.conditions.proofs.instrs.is_plain_conversion.Statement.{statement}
 use Rattle.conditions.proofs.instrs.is_plain_conversion.Tie as tie
 
-is-plain-pair-requires : tie.Need-is-plain-pair-requires
-is-plain-pair-requires c κs = search needs
-
-is-plain-cast-requires : tie.Need-is-plain-cast-requires
-is-plain-cast-requires c κs = search needs
-
 returns : tie.Need-returns
 unfolding isPlainInstr
 returns c =
@@ -27,4 +21,6 @@ returns-2 c =
 
 pub is-plain-conversion-spec : {M : Type 1} → statement M
 is-plain-conversion-spec =
-    tie.close (tie.spec is-plain-pair-requires is-plain-cast-requires returns returns-2)
+    tie.close
+    (tie.spec
+    (λ c κs. search needs) (λ c κs. search needs) returns returns-2)

@@ -4,12 +4,6 @@ use borrow.Author.Needs.{needs}
 use Rattle.conditions.proofs.instrs.is_plain_div.Statement.{statement}
 use Rattle.conditions.proofs.instrs.is_plain_div.Tie as tie
 
-is-same-requires : tie.Need-is-same-requires
-is-same-requires c κs = search needs
-
-is-unsigned-dest-requires : tie.Need-is-unsigned-dest-requires
-is-unsigned-dest-requires c κs = search needs
-
 returns : tie.Need-returns
 unfolding isPlainBinary binaryOp
 returns c = simp (← c .before .before .is-same .ensures, c .before .if1 .taken, ← c .is-unsigned-dest .ensures)
@@ -20,4 +14,6 @@ returns-2 c = simp (← c .before .is-same .ensures, c .if1 .left)
 
 pub is-plain-div-spec : {M : Type 1} → statement M
 is-plain-div-spec =
-    tie.close (tie.spec is-same-requires is-unsigned-dest-requires returns returns-2)
+    tie.close
+    (tie.spec
+    (λ c κs. search needs) (λ c κs. search needs) returns returns-2)

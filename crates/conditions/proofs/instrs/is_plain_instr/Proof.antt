@@ -6,67 +6,16 @@ use borrow.Author.Needs.{needs}
 use Rattle.conditions.proofs.instrs.is_plain_instr.Statement.{statement}
 use Rattle.conditions.proofs.instrs.is_plain_instr.Tie as tie
 
-enum-known-instr : tie.Need-enum-known-instr
-enum-known-instr c = search needs
-
-is-plain-move-requires : tie.Need-is-plain-move-requires
-is-plain-move-requires c κs = search needs
-
-enum-known-instr-2 : tie.Need-enum-known-instr-2
-enum-known-instr-2 c = search needs
-
-is-plain-move-requires-2 : tie.Need-is-plain-move-requires-2
-is-plain-move-requires-2 c κs = search needs
-
-enum-known-instr-3 : tie.Need-enum-known-instr-3
-enum-known-instr-3 c = search needs
-
-is-plain-two-requires : tie.Need-is-plain-two-requires
-is-plain-two-requires c κs = search needs
-
-enum-known-instr-4 : tie.Need-enum-known-instr-4
-enum-known-instr-4 c = search needs
-
-is-plain-conversion-requires : tie.Need-is-plain-conversion-requires
-is-plain-conversion-requires c κs = search needs
-
-enum-known-instr-5 : tie.Need-enum-known-instr-5
-enum-known-instr-5 c = search needs
-
-is-entry-requires : tie.Need-is-entry-requires
-is-entry-requires c κs = search needs
-
-enum-told : tie.Need-enum-told
-enum-told c = search needs
-
-enum-known-instr-6 : tie.Need-enum-known-instr-6
-enum-known-instr-6 c = search needs
-
 is-once-requires : tie.Need-is-once-requires
 is-once-requires c κs = rw (c .before .instr6 .given .1) at (c .before .before .before .before .pre .1 .1)
 
-enum-known-instr-7 : tie.Need-enum-known-instr-7
-enum-known-instr-7 c = search needs
-
 stands-requires : tie.Need-stands-requires
 stands-requires c κs = rw (c .before .instr7 .given .1) at (c .before .before .before .before .pre .1 .1)
-
-enum-known-instr-8 : tie.Need-enum-known-instr-8
-enum-known-instr-8 c = search needs
 
 is-plain-branch-requires : tie.Need-is-plain-branch-requires
 is-plain-branch-requires c κs =
     let p = c .before .before .before .before .pre in
     (p .0, (p .1 .0, rw (c .before .instr8 .given .1) at (p .1 .1)))
-
-enum-known-instr-9 : tie.Need-enum-known-instr-9
-enum-known-instr-9 c = search needs
-
-is-plain-operand-requires : tie.Need-is-plain-operand-requires
-is-plain-operand-requires c κs = search needs
-
-enum-told-2 : tie.Need-enum-told-2
-enum-told-2 c = search needs
 
 returns : tie.Need-returns
 unfolding isPlainInstr
@@ -117,34 +66,7 @@ pub is-plain-instr-spec : {M : Type 1} → statement M
 is-plain-instr-spec =
     tie.close
     (tie.spec
-    enum-known-instr
-    is-plain-move-requires
-    enum-known-instr-2
-    is-plain-move-requires-2
-    enum-known-instr-3
-    is-plain-two-requires
-    enum-known-instr-4
-    is-plain-conversion-requires
-    enum-known-instr-5
-    is-entry-requires
-    enum-told
-    enum-known-instr-6
-    is-once-requires
-    enum-known-instr-7
-    stands-requires
-    enum-known-instr-8
-    is-plain-branch-requires
-    enum-known-instr-9
-    is-plain-operand-requires
-    enum-told-2
-    returns
-    returns-2
-    returns-3
-    returns-4
-    returns-5
-    returns-6
-    returns-7
-    returns-8
-    returns-9
-    returns-10
-    returns-11)
+    (λ c. search needs) (λ c κs. search needs) (λ c. search needs) (λ c κs. search needs) (λ c. search needs) (λ c κs. search needs)
+    (λ c. search needs) (λ c κs. search needs) (λ c. search needs) (λ c κs. search needs) (λ c. search needs) (λ c. search needs) is-once-requires
+    (λ c. search needs) stands-requires (λ c. search needs) is-plain-branch-requires (λ c. search needs) (λ c κs. search needs) (λ c. search needs)
+    returns returns-2 returns-3 returns-4 returns-5 returns-6 returns-7 returns-8 returns-9 returns-10 returns-11)

@@ -6,12 +6,6 @@ use borrow.Author.Needs.{needs}
 use Rattle.conditions.proofs.instrs.is_plain_move.Statement.{statement}
 use Rattle.conditions.proofs.instrs.is_plain_move.Tie as tie
 
-is-plain-pair-requires : tie.Need-is-plain-pair-requires
-is-plain-pair-requires c κs = search needs
-
-is-same-requires : tie.Need-is-same-requires
-is-same-requires c κs = search needs
-
 returns : tie.Need-returns
 returns c =
     let a = c .before .before .before .before .args in
@@ -24,4 +18,7 @@ returns-2 c =
     sym (pair-failed (functionOf (a .sheet .now)) (a .d) (a .x) (c .before .is-plain-pair .ensures) (c .if1 .left) (isSame (a .d) (a .x)))
 
 pub is-plain-move-spec : {M : Type 1} → statement M
-is-plain-move-spec = tie.close (tie.spec is-plain-pair-requires is-same-requires returns returns-2)
+is-plain-move-spec =
+    tie.close
+    (tie.spec
+    (λ c κs. search needs) (λ c κs. search needs) returns returns-2)

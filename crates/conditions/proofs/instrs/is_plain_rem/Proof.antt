@@ -8,12 +8,6 @@ use borrow.Author.Needs.{needs}
 use Rattle.conditions.proofs.instrs.is_plain_rem.Statement.{statement}
 use Rattle.conditions.proofs.instrs.is_plain_rem.Tie as tie
 
-is-plain-div-requires : tie.Need-is-plain-div-requires
-is-plain-div-requires c κs = search needs
-
-is-one-byte-requires : tie.Need-is-one-byte-requires
-is-one-byte-requires c κs = search needs
-
 returns : tie.Need-returns
 unfolding isPlainBinary binaryOp
 returns c =
@@ -29,4 +23,6 @@ returns-2 c =
 
 pub is-plain-rem-spec : {M : Type 1} → statement M
 is-plain-rem-spec =
-    tie.close (tie.spec is-plain-div-requires is-one-byte-requires returns returns-2)
+    tie.close
+    (tie.spec
+    (λ c κs. search needs) (λ c κs. search needs) returns returns-2)

@@ -9,21 +9,6 @@ use borrow.Author.Needs.{needs}
 use Rattle.conditions.proofs.instrs.is_plain_two.Statement.{statement}
 use Rattle.conditions.proofs.instrs.is_plain_two.Tie as tie
 
-is-plain-pair-requires : tie.Need-is-plain-pair-requires
-is-plain-pair-requires c κs = search needs
-
-is-plain-operand-requires : tie.Need-is-plain-operand-requires
-is-plain-operand-requires c κs = search needs
-
-width-requires : tie.Need-width-requires
-width-requires c κs = search needs
-
-width-requires-2 : tie.Need-width-requires-2
-width-requires-2 c κs = search needs
-
-is-plain-binary-requires : tie.Need-is-plain-binary-requires
-is-plain-binary-requires c κs = search needs
-
 returns : tie.Need-returns
 unfolding isPlainInstr
 returns c =
@@ -79,12 +64,5 @@ pub is-plain-two-spec : {M : Type 1} → statement M
 is-plain-two-spec =
     tie.close
     (tie.spec
-    is-plain-pair-requires
-    is-plain-operand-requires
-    width-requires
-    width-requires-2
-    is-plain-binary-requires
-    returns
-    returns-2
-    returns-3
+    (λ c κs. search needs) (λ c κs. search needs) (λ c κs. search needs) (λ c κs. search needs) (λ c κs. search needs) returns returns-2 returns-3
     returns-4)

@@ -3,14 +3,8 @@ use borrow.Author.Needs.{needs}
 use Rattle.conditions.proofs.instrs.is_wide.Statement.{statement}
 use Rattle.conditions.proofs.instrs.is_wide.Tie as tie
 
-width-requires : tie.Need-width-requires
-width-requires c κs = search needs
-
 returns : tie.Need-returns
 returns c = simp (← c .before .width .ensures, ne-eqb _ 4 (c .if1 .taken))
-
-bytes-requires : tie.Need-bytes-requires
-bytes-requires c κs = search needs
 
 returns-2 : tie.Need-returns-2
 returns-2 c = simp (← c .before .before .before .width .ensures, c .before .before .if1 .left, ← c .before .bytes .ensures .0, ne-eqb _ 8 (c .if2 .taken))
@@ -49,4 +43,5 @@ returns-5 c =
 pub is-wide-spec : {M : Type 1} → statement M
 is-wide-spec =
     tie.close
-    (tie.spec width-requires returns bytes-requires returns-2 returns-3 returns-4 returns-5)
+    (tie.spec
+    (λ c κs. search needs) returns (λ c κs. search needs) returns-2 returns-3 returns-4 returns-5)

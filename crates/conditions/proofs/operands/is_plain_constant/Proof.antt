@@ -3,18 +3,6 @@ use borrow.Author.Needs.{needs}
 use Rattle.conditions.proofs.operands.is_plain_constant.Statement.{statement}
 use Rattle.conditions.proofs.operands.is_plain_constant.Tie as tie
 
-enum-known-x : tie.Need-enum-known-x
-enum-known-x c = search needs
-
-is-short-requires : tie.Need-is-short-requires
-is-short-requires c κs = search needs
-
-enum-told : tie.Need-enum-told
-enum-told c = search needs
-
-enum-told-2 : tie.Need-enum-told-2
-enum-told-2 c = search needs
-
 returns : tie.Need-returns
 returns c = simp (c .before .before .before .x .given .1, c .before .if1 .taken, ← c .is-short .ensures)
 
@@ -34,12 +22,4 @@ pub is-plain-constant-spec : {M : Type 1} → statement M
 is-plain-constant-spec =
     tie.close
     (tie.spec
-    enum-known-x
-    is-short-requires
-    enum-told
-    enum-told-2
-    returns
-    returns-2
-    returns-3
-    returns-4
-    returns-5)
+    (λ c. search needs) (λ c κs. search needs) (λ c. search needs) (λ c. search needs) returns returns-2 returns-3 returns-4 returns-5)

@@ -2,14 +2,11 @@ use borrow.Author.Needs.{needs}
 use Rattle.conditions.proofs.operands.is_same.Statement.{statement}
 use Rattle.conditions.proofs.operands.is_same.Tie as tie
 
-width-requires : tie.Need-width-requires
-width-requires c κs = search needs
-
-bytes-requires : tie.Need-bytes-requires
-bytes-requires c κs = search needs
-
 returns : tie.Need-returns
 returns c = simp (← c .before .width .ensures, ← c .bytes .ensures .0)
 
 pub is-same-spec : {M : Type 1} → statement M
-is-same-spec = tie.close (tie.spec width-requires bytes-requires returns)
+is-same-spec =
+    tie.close
+    (tie.spec
+    (λ c κs. search needs) (λ c κs. search needs) returns)

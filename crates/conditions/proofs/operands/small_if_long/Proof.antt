@@ -3,14 +3,8 @@ use borrow.Author.Needs.{needs}
 use Rattle.conditions.proofs.operands.small_if_long.Statement.{statement}
 use Rattle.conditions.proofs.operands.small_if_long.Tie as tie
 
-enum-known-x : tie.Need-enum-known-x
-enum-known-x c = search needs
-
 returns : tie.Need-returns
 returns c = no-int _ (c .before .args .x) (c .match .keys2)
-
-is-small-requires : tie.Need-is-small-requires
-is-small-requires c κs = search needs
 
 returns-2 : tie.Need-returns-2
 returns-2 c = simp (c .before .before .x .given .1, c .if1 .taken)
@@ -20,4 +14,6 @@ returns-3 c = simp (c .before .before .before .x .given .1, c .before .if1 .left
 
 pub small-if-long-spec : {M : Type 1} → statement M
 small-if-long-spec =
-    tie.close (tie.spec enum-known-x returns is-small-requires returns-2 returns-3)
+    tie.close
+    (tie.spec
+    (λ c. search needs) returns (λ c κs. search needs) returns-2 returns-3)

@@ -3,9 +3,6 @@ use borrow.Author.Needs.{needs}
 use Rattle.conditions.proofs.vars.is_bool_type.Statement.{statement}
 use Rattle.conditions.proofs.vars.is_bool_type.Tie as tie
 
-is-scalar-requires : tie.Need-is-scalar-requires
-is-scalar-requires c κs = search needs
-
 returns : tie.Need-returns
 returns c = simp (c .before .if1 .taken, ← c .is-scalar .ensures)
 
@@ -13,4 +10,7 @@ returns-2 : tie.Need-returns-2
 returns-2 c = simp (ne-eqb _ 7 (c .if1 .left))
 
 pub is-bool-type-spec : {M : Type 1} → statement M
-is-bool-type-spec = tie.close (tie.spec is-scalar-requires returns returns-2)
+is-bool-type-spec =
+    tie.close
+    (tie.spec
+    (λ c κs. search needs) returns returns-2)

@@ -11,27 +11,9 @@ use borrow.Author.Needs.{needs}
 use Rattle.conditions.proofs.vars.is_entry.Statement.{statement}
 use Rattle.conditions.proofs.vars.is_entry.Tie as tie
 
-cell-at-requires : tie.Need-cell-at-requires
-cell-at-requires c κs = search needs
-
 returns : tie.Need-returns
 unfolding functionOf
 returns c = simp (types-length, ← c .before .cell-at .ensures, le-ltb _ _ (c .if1 .taken))
-
-mul-type-at : tie.Need-mul-type-at
-mul-type-at c = search needs
-
-add-type-at : tie.Need-add-type-at
-add-type-at c = search needs
-
-type-at-requires : tie.Need-type-at-requires
-type-at-requires c κs = search needs
-
-same-type-requires : tie.Need-same-type-requires
-same-type-requires c κs = search needs
-
-is-plain-code-requires : tie.Need-is-plain-code-requires
-is-plain-code-requires c κs = search needs
 
 returns-2 : tie.Need-returns-2
 unfolding functionOf
@@ -55,12 +37,5 @@ pub is-entry-spec : {M : Type 1} → statement M
 is-entry-spec =
     tie.close
     (tie.spec
-    cell-at-requires
-    returns
-    mul-type-at
-    add-type-at
-    type-at-requires
-    same-type-requires
-    is-plain-code-requires
-    returns-2
-    returns-3)
+    (λ c κs. search needs) returns (λ c. search needs) (λ c. search needs) (λ c κs. search needs) (λ c κs. search needs) (λ c κs. search needs)
+    returns-2 returns-3)

@@ -2,11 +2,11 @@ use borrow.Author.Needs.{needs}
 use Rattle.conditions.proofs.vars.is_one_byte.Statement.{statement}
 use Rattle.conditions.proofs.vars.is_one_byte.Tie as tie
 
-bytes-requires : tie.Need-bytes-requires
-bytes-requires c κs = search needs
-
 returns : tie.Need-returns
 returns c = simp (← c .bytes .ensures .0)
 
 pub is-one-byte-spec : {M : Type 1} → statement M
-is-one-byte-spec = tie.close (tie.spec bytes-requires returns)
+is-one-byte-spec =
+    tie.close
+    (tie.spec
+    (λ c κs. search needs) returns)

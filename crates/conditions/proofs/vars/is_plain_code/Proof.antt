@@ -19,4 +19,7 @@ returns-5 : tie.Need-returns-5
 returns-5 c = code-high (c .before .before .before .before .args .code) (omega arith)
 
 pub is-plain-code-spec : {M : Type 1} → statement M
-is-plain-code-spec = tie.close (tie.spec returns returns-2 returns-3 returns-4 returns-5)
+is-plain-code-spec =
+    tie.close
+    (tie.spec
+    returns returns-2 returns-3 returns-4 returns-5)

@@ -4,12 +4,6 @@ use borrow.Author.Needs.{needs}
 use Rattle.conditions.proofs.vars.is_plain_return.Statement.{statement}
 use Rattle.conditions.proofs.vars.is_plain_return.Tie as tie
 
-is-scalar-requires : tie.Need-is-scalar-requires
-is-scalar-requires c κs = search needs
-
-is-plain-code-requires : tie.Need-is-plain-code-requires
-is-plain-code-requires c κs = search needs
-
 returns : tie.Need-returns
 returns c = simp (← c .before .before .is-scalar .ensures, c .before .if1 .taken, c .match .keys1)
 
@@ -33,4 +27,5 @@ returns-4 c = simp (← c .before .is-scalar .ensures, c .if1 .left)
 pub is-plain-return-spec : {M : Type 1} → statement M
 is-plain-return-spec =
     tie.close
-    (tie.spec is-scalar-requires is-plain-code-requires returns returns-2 returns-3 returns-4)
+    (tie.spec
+    (λ c κs. search needs) (λ c κs. search needs) returns returns-2 returns-3 returns-4)

@@ -2,12 +2,6 @@ use borrow.Author.Needs.{needs}
 use Rattle.conditions.proofs.vars.is_scalar_var.Statement.{statement}
 use Rattle.conditions.proofs.vars.is_scalar_var.Tie as tie
 
-is-entry-requires : tie.Need-is-entry-requires
-is-entry-requires c κs = search needs
-
-is-scalar-requires : tie.Need-is-scalar-requires
-is-scalar-requires c κs = search needs
-
 returns : tie.Need-returns
 returns c = simp (← c .before .before .is-entry .ensures, c .before .if1 .taken, ← c .is-scalar .ensures)
 
@@ -15,4 +9,7 @@ returns-2 : tie.Need-returns-2
 returns-2 c = simp (← c .before .is-entry .ensures, c .if1 .left)
 
 pub is-scalar-var-spec : {M : Type 1} → statement M
-is-scalar-var-spec = tie.close (tie.spec is-entry-requires is-scalar-requires returns returns-2)
+is-scalar-var-spec =
+    tie.close
+    (tie.spec
+    (λ c κs. search needs) (λ c κs. search needs) returns returns-2)

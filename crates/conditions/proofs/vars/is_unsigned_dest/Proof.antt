@@ -12,4 +12,7 @@ returns-3 : tie.Need-returns-3
 returns-3 c = simp (ne-eqb _ 1 (c .match .rest .0 .1), ne-eqb _ 3 (c .match .rest .1))
 
 pub is-unsigned-dest-spec : {M : Type 1} → statement M
-is-unsigned-dest-spec = tie.close (tie.spec returns returns-2 returns-3)
+is-unsigned-dest-spec =
+    tie.close
+    (tie.spec
+    returns returns-2 returns-3)

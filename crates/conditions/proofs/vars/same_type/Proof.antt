@@ -9,4 +9,7 @@ returns-2 : tie.Need-returns-2
 returns-2 c = simp (ne-eqb _ _ (c .if1 .left))
 
 pub same-type-spec : {M : Type 1} → statement M
-same-type-spec = tie.close (tie.spec returns returns-2)
+same-type-spec =
+    tie.close
+    (tie.spec
+    returns returns-2)

@@ -4,10 +4,13 @@ use Rattle.generation.proofs.pass.ending.Statement.{statement}
 use Rattle.generation.proofs.pass.ending.Tie as tie
 
 returns : tie.Need-returns
-returns c = (rw ((c .if1 .taken)) refl, omega arith)
+returns c = (rw (c .if1 .taken) refl, omega arith)
 
 returns-2 : tie.Need-returns-2
-returns-2 c = (rw ((c .if1 .left)) refl, omega arith)
+returns-2 c = (rw (c .if1 .left) refl, omega arith)
 
 pub ending-spec : {M : Type 1} → statement M
-ending-spec = tie.close (tie.spec returns returns-2)
+ending-spec =
+    tie.close
+    (tie.spec
+    returns returns-2)

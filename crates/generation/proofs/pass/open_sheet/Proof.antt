@@ -1,55 +1,30 @@
 use mathlib.Core.Path.{sym, ap, _∙_}
 use Rattle.cells.specs.Cells.{cellAt}
-use Rattle.laid.specs.Laid.{accepts}
+use Rattle.layout.specs.Layout.{accepts}
 use Rattle.frame.specs.Sizes.{sizesAt}
-use Rattle.bodies.specs.Head.{headCheck}
+use Rattle.body.specs.Head.{headCheck}
 use Rattle.generation.proofs.Lowering.{tables-wrong, head-wrong, headed-wrong, opens}
 use borrow.Author.Needs.{needs}
 use Rattle.generation.proofs.pass.open_sheet.Statement.{statement}
 use Rattle.generation.proofs.pass.open_sheet.Tie as tie
 
-tables-check-requires : tie.Need-tables-check-requires
-tables-check-requires c κs = search needs
-
-enum-known-number : tie.Need-enum-known-number
-enum-known-number c = search needs
-
 returns : tie.Need-returns
-returns c = (tables-wrong (c .before .before .before .before .before .before .args .tables .now) (c .before .before .before .before .before .before .args .sheet .now) (sym (c .before .before .before .tables-check .ensures) ∙ (c .before .number .given .1)), (c .before .before .before .before .before .before .pre))
-
-enum-told : tie.Need-enum-told
-enum-told c = search needs
-
-head-check-requires : tie.Need-head-check-requires
-head-check-requires c κs = search needs
-
-enum-known-total : tie.Need-enum-known-total
-enum-known-total c = search needs
-
-enum-known-number-2 : tie.Need-enum-known-number-2
-enum-known-number-2 c = search needs
+returns c = (tables-wrong (c .before .before .before .before .before .before .args .tables .now) (c .before .before .before .before .before .before .args .sheet .now) (sym (c .before .before .before .tables-check .ensures) ∙ c .before .number .given .1), c .before .before .before .before .before .before .pre)
 
 returns-2 : tie.Need-returns-2
 returns-2 c =
-    let a = (c .before .before .before .before .before .before .before .before .before .before .args) in
-    (opens (a .tables .now) (a .sheet .now) _ (ap accepts (sym (c .before .before .before .before .before .before .before .tables-check .ensures) ∙ (c .before .before .before .before .before .enum-told .given .1))) (sym (c .before .total .given .1) ∙ (c .before .before .before .head-check .ensures .0)) (c .before .before .before .head-check .ensures .1 .1), (c .before .before .before .head-check .ensures .1 .0) ∙ (c .before .before .before .before .before .before .before .before .before .before .pre))
+    let a = c .before .before .before .before .before .before .before .before .before .before .args in
+    (opens (a .tables .now) (a .sheet .now) _ (ap accepts (sym (c .before .before .before .before .before .before .before .tables-check .ensures) ∙ c .before .before .before .before .before .enum-told .given .1)) (sym (c .before .total .given .1) ∙ c .before .before .before .head-check .ensures .0) (c .before .before .before .head-check .ensures .1 .1), c .before .before .before .head-check .ensures .1 .0 ∙ c .before .before .before .before .before .before .before .before .before .before .pre)
 
 returns-3 : tie.Need-returns-3
 returns-3 c =
-    let a = (c .before .before .before .before .before .before .before .before .before .before .args) in
+    let a = c .before .before .before .before .before .before .before .before .before .before .args in
     let s = a .sheet .now in
-    (head-wrong (a .tables .now) s (ap accepts (sym (c .before .before .before .before .before .before .before .tables-check .ensures) ∙ (c .before .before .before .before .before .enum-told .given .1))) (headed-wrong (headCheck s) (sizesAt s (cellAt s 0) 6) (sym (c .before .number2 .given .1) ∙ (c .before .before .before .head-check .ensures .0))), (c .before .before .before .head-check .ensures .1 .0) ∙ (c .before .before .before .before .before .before .before .before .before .before .pre))
+    (head-wrong (a .tables .now) s (ap accepts (sym (c .before .before .before .before .before .before .before .tables-check .ensures) ∙ c .before .before .before .before .before .enum-told .given .1)) (headed-wrong (headCheck s) (sizesAt s (cellAt s 0) 6) (sym (c .before .number2 .given .1) ∙ c .before .before .before .head-check .ensures .0)), c .before .before .before .head-check .ensures .1 .0 ∙ c .before .before .before .before .before .before .before .before .before .before .pre)
 
 pub open-sheet-spec : {M : Type 1} → statement M
 open-sheet-spec =
     tie.close
     (tie.spec
-    tables-check-requires
-    enum-known-number
-    returns
-    enum-told
-    head-check-requires
-    enum-known-total
-    enum-known-number-2
-    returns-2
+    (λ c κs. search needs) (λ c. search needs) returns (λ c. search needs) (λ c κs. search needs) (λ c. search needs) (λ c. search needs) returns-2
     returns-3)

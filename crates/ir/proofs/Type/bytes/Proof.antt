@@ -7,21 +7,12 @@ use borrow.Author.Needs.{needs}
 use Rattle.ir.proofs.Type.bytes.Statement.{statement}
 use Rattle.ir.proofs.Type.bytes.Tie as tie
 
-element-width-requires : tie.Need-element-width-requires
-element-width-requires c κs = search needs
-
-is-scalar-requires : tie.Need-is-scalar-requires
-is-scalar-requires c κs = search needs
-
 returns : tie.Need-returns
 unfolding bytes
 returns c = (simp (← c .before .is-scalar .ensures, c .if1 .taken, c .before .before .element-width .ensures .0), omega arith)
 
 mul-result : tie.Need-mul-result
 mul-result c = omega (arith, mul-le-mul-right (c .before .before .before .before .args .self .count) (c .before .before .before .element-width .ensures .1))
-
-mul-result-2 : tie.Need-mul-result-2
-mul-result-2 c = search needs
 
 returns-2 : tie.Need-returns-2
 unfolding bytes
@@ -41,10 +32,4 @@ pub bytes-spec : {M : Type 1} → statement M
 bytes-spec =
     tie.close
     (tie.spec
-    element-width-requires
-    is-scalar-requires
-    returns
-    mul-result
-    mul-result-2
-    returns-2
-    returns-3)
+    (λ c κs. search needs) (λ c κs. search needs) returns mul-result (λ c. search needs) returns-2 returns-3)

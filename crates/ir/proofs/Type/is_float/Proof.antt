@@ -4,9 +4,6 @@ use borrow.Author.Needs.{needs}
 use Rattle.ir.proofs.Type.is_float.Statement.{statement}
 use Rattle.ir.proofs.Type.is_float.Tie as tie
 
-is-scalar-requires : tie.Need-is-scalar-requires
-is-scalar-requires c κs = search needs
-
 returns : tie.Need-returns
 unfolding isFloat
 returns c = simp (← c .before .before .is-scalar .ensures, c .before .if1 .taken, c .match .keys1)
@@ -24,4 +21,7 @@ unfolding isFloat
 returns-4 c = simp (← c .before .is-scalar .ensures, c .if1 .left)
 
 pub is-float-spec : {M : Type 1} → statement M
-is-float-spec = tie.close (tie.spec is-scalar-requires returns returns-2 returns-3 returns-4)
+is-float-spec =
+    tie.close
+    (tie.spec
+    (λ c κs. search needs) returns returns-2 returns-3 returns-4)

@@ -4,9 +4,6 @@ use borrow.Author.Needs.{needs}
 use Rattle.ir.proofs.Type.is_unsigned.Statement.{statement}
 use Rattle.ir.proofs.Type.is_unsigned.Tie as tie
 
-is-scalar-requires : tie.Need-is-scalar-requires
-is-scalar-requires c κs = search needs
-
 returns : tie.Need-returns
 unfolding isUnsigned
 returns c = simp (← c .before .before .is-scalar .ensures, c .before .if1 .taken, c .match .keys1)
@@ -34,4 +31,5 @@ returns-6 c = simp (← c .before .is-scalar .ensures, c .if1 .left)
 pub is-unsigned-spec : {M : Type 1} → statement M
 is-unsigned-spec =
     tie.close
-    (tie.spec is-scalar-requires returns returns-2 returns-3 returns-4 returns-5 returns-6)
+    (tie.spec
+    (λ c κs. search needs) returns returns-2 returns-3 returns-4 returns-5 returns-6)

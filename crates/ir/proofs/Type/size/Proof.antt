@@ -4,12 +4,6 @@ use borrow.Author.Needs.{needs}
 use Rattle.ir.proofs.Type.size.Statement.{statement}
 use Rattle.ir.proofs.Type.size.Tie as tie
 
-element-width-requires : tie.Need-element-width-requires
-element-width-requires c κs = search needs
-
-bytes-requires : tie.Need-bytes-requires
-bytes-requires c κs = search needs
-
 returns : tie.Need-returns
 unfolding typeSize
 returns c = simp (← c .before .element-width .ensures .0, eq-eqb _ _ (c .if1 .taken))
@@ -19,4 +13,7 @@ unfolding typeSize
 returns-2 c = simp (← c .before .before .element-width .ensures .0, ne-eqb _ _ (c .before .if1 .left), c .bytes .ensures .0)
 
 pub size-spec : {M : Type 1} → statement M
-size-spec = tie.close (tie.spec element-width-requires bytes-requires returns returns-2)
+size-spec =
+    tie.close
+    (tie.spec
+    (λ c κs. search needs) (λ c κs. search needs) returns returns-2)

@@ -4,12 +4,6 @@ use borrow.Author.Needs.{needs}
 use Rattle.ir.proofs.Type.to_elf_size.Statement.{statement}
 use Rattle.ir.proofs.Type.to_elf_size.Tie as tie
 
-is-scalar-requires : tie.Need-is-scalar-requires
-is-scalar-requires c κs = search needs
-
-element-width-requires : tie.Need-element-width-requires
-element-width-requires c κs = search needs
-
 returns : tie.Need-returns
 unfolding elfSize
 returns c = simp (← c .before .before .before .is-scalar .ensures, c .before .before .if1 .taken, ← c .before .element-width .ensures .0, c .match .keys1)
@@ -34,10 +28,4 @@ pub to-elf-size-spec : {M : Type 1} → statement M
 to-elf-size-spec =
     tie.close
     (tie.spec
-    is-scalar-requires
-    element-width-requires
-    returns
-    returns-2
-    returns-3
-    returns-4
-    returns-5)
+    (λ c κs. search needs) (λ c κs. search needs) returns returns-2 returns-3 returns-4 returns-5)

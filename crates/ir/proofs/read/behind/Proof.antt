@@ -59,12 +59,4 @@ pub behind-spec : {M : Type 1} → statement M
 behind-spec =
     tie.close
     (tie.spec
-    cell-at-requires
-    add-result
-    add-cell-at
-    cell-at-requires-2
-    mul-result
-    add-result-2
-    add-result-3
-    returns
-    returns-2)
+    cell-at-requires add-result add-cell-at cell-at-requires-2 mul-result add-result-2 add-result-3 returns returns-2)

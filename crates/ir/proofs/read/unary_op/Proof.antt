@@ -15,4 +15,7 @@ returns-3 : tie.Need-returns-3
 returns-3 c = not-unary _ (c .match .rest .0 .1) (c .match .rest .1)
 
 pub unary-op-spec : {M : Type 1} → statement M
-unary-op-spec = tie.close (tie.spec returns returns-2 returns-3)
+unary-op-spec =
+    tie.close
+    (tie.spec
+    returns returns-2 returns-3)

@@ -3,39 +3,9 @@ use borrow.Author.Needs.{needs}
 use Rattle.layout.proofs.instrs.call_check.Statement.{statement}
 use Rattle.layout.proofs.instrs.call_check.Tie as tie
 
-within-requires : tie.Need-within-requires
-within-requires c κs = search needs
-
-enum-known-c1 : tie.Need-enum-known-c1
-enum-known-c1 c = search needs
-
-enum-known-k : tie.Need-enum-known-k
-enum-known-k c = search needs
-
 returns : tie.Need-returns
 unfolding callCheck
 returns c = simp (← c .before .before .before .within .ensures, c .before .k .given .1)
-
-limited-requires : tie.Need-limited-requires
-limited-requires c κs = search needs
-
-enum-known-count : tie.Need-enum-known-count
-enum-known-count c = search needs
-
-zeros-check-requires : tie.Need-zeros-check-requires
-zeros-check-requires c κs = search needs
-
-enum-known-c3 : tie.Need-enum-known-c3
-enum-known-c3 c = search needs
-
-operands-check-requires : tie.Need-operands-check-requires
-operands-check-requires c κs = search needs
-
-enum-known-n : tie.Need-enum-known-n
-enum-known-n c = search needs
-
-enum-known-n-2 : tie.Need-enum-known-n-2
-enum-known-n-2 c = search needs
 
 returns-2 : tie.Need-returns-2
 unfolding callCheck
@@ -70,17 +40,5 @@ pub call-check-spec : {M : Type 1} → statement M
 call-check-spec =
     tie.close
     (tie.spec
-    within-requires
-    enum-known-c1
-    enum-known-k
-    returns
-    limited-requires
-    enum-known-count
-    zeros-check-requires
-    enum-known-c3
-    operands-check-requires
-    enum-known-n
-    enum-known-n-2
-    returns-2
-    returns-3
-    returns-4)
+    (λ c κs. search needs) (λ c. search needs) (λ c. search needs) returns (λ c κs. search needs) (λ c. search needs) (λ c κs. search needs)
+    (λ c. search needs) (λ c κs. search needs) (λ c. search needs) (λ c. search needs) returns-2 returns-3 returns-4)

@@ -3,12 +3,6 @@ use borrow.Author.Needs.{needs}
 use Rattle.layout.proofs.instrs.dest_check.Statement.{statement}
 use Rattle.layout.proofs.instrs.dest_check.Tie as tie
 
-var-check-requires : tie.Need-var-check-requires
-var-check-requires c κs = search needs
-
-zeros-check-requires : tie.Need-zeros-check-requires
-zeros-check-requires c κs = search needs
-
 returns : tie.Need-returns
 unfolding destCheck
 returns c = simp (c .before .if1 .taken, c .var-check .ensures)
@@ -18,4 +12,7 @@ unfolding destCheck
 returns-2 c = simp (c .before .if1 .left, c .zeros-check .ensures)
 
 pub dest-check-spec : {M : Type 1} → statement M
-dest-check-spec = tie.close (tie.spec var-check-requires zeros-check-requires returns returns-2)
+dest-check-spec =
+    tie.close
+    (tie.spec
+    (λ c κs. search needs) (λ c κs. search needs) returns returns-2)

@@ -12,4 +12,7 @@ returns-3 : tie.Need-returns-3
 returns-3 c = simp (le-ltb _ _ (c .before .if1 .left), ne-eqb _ _ (c .if2 .left))
 
 pub has-dest-spec : {M : Type 1} → statement M
-has-dest-spec = tie.close (tie.spec returns returns-2 returns-3)
+has-dest-spec =
+    tie.close
+    (tie.spec
+    returns returns-2 returns-3)

@@ -15,4 +15,7 @@ returns-4 : tie.Need-returns-4
 returns-4 c = simp (le-ltb _ _ (c .before .if1 .left), ne-eqb _ 8 (c .match .rest .0 .1), ne-eqb _ 9 (c .match .rest .1))
 
 pub has-left-spec : {M : Type 1} → statement M
-has-left-spec = tie.close (tie.spec returns returns-2 returns-3 returns-4)
+has-left-spec =
+    tie.close
+    (tie.spec
+    returns returns-2 returns-3 returns-4)

@@ -3,42 +3,6 @@ use borrow.Author.Needs.{needs}
 use Rattle.layout.proofs.instrs.instr_check.Statement.{statement}
 use Rattle.layout.proofs.instrs.instr_check.Tie as tie
 
-within-requires : tie.Need-within-requires
-within-requires c κs = search needs
-
-enum-known-kind : tie.Need-enum-known-kind
-enum-known-kind c = search needs
-
-operation-most-requires : tie.Need-operation-most-requires
-operation-most-requires c κs = search needs
-
-within-requires-2 : tie.Need-within-requires-2
-within-requires-2 c κs = search needs
-
-enum-known-operation : tie.Need-enum-known-operation
-enum-known-operation c = search needs
-
-has-dest-requires : tie.Need-has-dest-requires
-has-dest-requires c κs = search needs
-
-dest-check-requires : tie.Need-dest-check-requires
-dest-check-requires c κs = search needs
-
-enum-known-c3 : tie.Need-enum-known-c3
-enum-known-c3 c = search needs
-
-body-check-requires : tie.Need-body-check-requires
-body-check-requires c κs = search needs
-
-enum-known-n : tie.Need-enum-known-n
-enum-known-n c = search needs
-
-enum-known-k : tie.Need-enum-known-k
-enum-known-k c = search needs
-
-enum-known-k-2 : tie.Need-enum-known-k-2
-enum-known-k-2 c = search needs
-
 returns : tie.Need-returns
 unfolding instrCheck
 returns c =
@@ -95,19 +59,6 @@ pub instr-check-spec : {M : Type 1} → statement M
 instr-check-spec =
     tie.close
     (tie.spec
-    within-requires
-    enum-known-kind
-    operation-most-requires
-    within-requires-2
-    enum-known-operation
-    has-dest-requires
-    dest-check-requires
-    enum-known-c3
-    body-check-requires
-    enum-known-n
-    enum-known-k
-    enum-known-k-2
-    returns
-    returns-2
-    returns-3
-    returns-4)
+    (λ c κs. search needs) (λ c. search needs) (λ c κs. search needs) (λ c κs. search needs) (λ c. search needs) (λ c κs. search needs)
+    (λ c κs. search needs) (λ c. search needs) (λ c κs. search needs) (λ c. search needs) (λ c. search needs) (λ c. search needs) returns returns-2
+    returns-3 returns-4)

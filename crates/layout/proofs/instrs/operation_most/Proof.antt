@@ -17,13 +17,7 @@ returns-4 : tie.Need-returns-4
 returns-4 c =
     let p = c .before .before in
     let k : ℕ = p .before .args .kind in
-    simp (
-      ne-eqb k 1 (p .match .rest .0 .0 .1),
-      ne-eqb k 2 (p .match .rest .0 .1),
-      ne-eqb k 5 (p .match .rest .1),
-      le-leb 6 k (omega arith),
-      le-leb k 8 (omega arith),
-    )
+    simp (ne-eqb k 1 (p .match .rest .0 .0 .1), ne-eqb k 2 (p .match .rest .0 .1), ne-eqb k 5 (p .match .rest .1), le-leb 6 k (omega arith), le-leb k 8 (omega arith))
 
 returns-5 : tie.Need-returns-5
 returns-5 c =
@@ -35,14 +29,10 @@ returns-6 : tie.Need-returns-6
 returns-6 c =
     let p = c .before .before in
     let k : ℕ = p .before .args .kind in
-    simp (
-      ne-eqb k 1 (p .match .rest .0 .0 .1),
-      ne-eqb k 2 (p .match .rest .0 .1),
-      ne-eqb k 5 (p .match .rest .1),
-      lt-leb k 8 (omega arith),
-      le-leb 6 k (omega arith),
-    )
+    simp (ne-eqb k 1 (p .match .rest .0 .0 .1), ne-eqb k 2 (p .match .rest .0 .1), ne-eqb k 5 (p .match .rest .1), lt-leb k 8 (omega arith), le-leb 6 k (omega arith))
 
 pub operation-most-spec : {M : Type 1} → statement M
 operation-most-spec =
-    tie.close (tie.spec returns returns-2 returns-3 returns-4 returns-5 returns-6)
+    tie.close
+    (tie.spec
+    returns returns-2 returns-3 returns-4 returns-5 returns-6)

@@ -3,12 +3,6 @@ use borrow.Author.Needs.{needs}
 use Rattle.layout.proofs.instrs.side_check.Statement.{statement}
 use Rattle.layout.proofs.instrs.side_check.Tie as tie
 
-operand-check-requires : tie.Need-operand-check-requires
-operand-check-requires c κs = search needs
-
-zeros-check-requires : tie.Need-zeros-check-requires
-zeros-check-requires c κs = search needs
-
 returns : tie.Need-returns
 unfolding sideCheck
 returns c = simp (c .before .if1 .taken, c .operand-check .ensures)
@@ -19,4 +13,6 @@ returns-2 c = simp (c .before .if1 .left, c .zeros-check .ensures)
 
 pub side-check-spec : {M : Type 1} → statement M
 side-check-spec =
-    tie.close (tie.spec operand-check-requires zeros-check-requires returns returns-2)
+    tie.close
+    (tie.spec
+    (λ c κs. search needs) (λ c κs. search needs) returns returns-2)

@@ -4,12 +4,6 @@ use borrow.Author.Needs.{needs}
 use Rattle.layout.proofs.parts.count_check.Statement.{statement}
 use Rattle.layout.proofs.parts.count_check.Tie as tie
 
-cell-requires : tie.Need-cell-requires
-cell-requires c κs = search needs
-
-enum-known-count : tie.Need-enum-known-count
-enum-known-count c = search needs
-
 returns : tie.Need-returns
 unfolding countCheck
 returns c =
@@ -32,9 +26,6 @@ returns-3 c =
     let r = q .before .before in
     simp (← r .cell .ensures, q .count .given .1, ne-eqb _ _ (p .if1 .left), le-ltb _ _ (c .before .if2 .left), lt-ltb _ _ (c .if3 .taken))
 
-enum-known-k : tie.Need-enum-known-k
-enum-known-k c = search needs
-
 returns-4 : tie.Need-returns-4
 unfolding countCheck
 returns-4 c =
@@ -51,11 +42,4 @@ pub count-check-spec : {M : Type 1} → statement M
 count-check-spec =
     tie.close
     (tie.spec
-    cell-requires
-    enum-known-count
-    returns
-    returns-2
-    returns-3
-    enum-known-k
-    returns-4
-    returns-5)
+    (λ c κs. search needs) (λ c. search needs) returns returns-2 returns-3 (λ c. search needs) returns-4 returns-5)

@@ -23,4 +23,7 @@ unfolding endCheck
 returns-4 c = simp (le-ltb (c .before .before .args .c .at * 8) (length (c .before .before .args .s .now)) (omega arith))
 
 pub end-check-spec : {M : Type 1} → statement M
-end-check-spec = tie.close (tie.spec returns returns-2 returns-3 returns-4)
+end-check-spec =
+    tie.close
+    (tie.spec
+    returns returns-2 returns-3 returns-4)

@@ -3,33 +3,6 @@ use borrow.Author.Needs.{needs}
 use Rattle.layout.proofs.parts.fields_check.Statement.{statement}
 use Rattle.layout.proofs.parts.fields_check.Tie as tie
 
-within-requires : tie.Need-within-requires
-within-requires c κs = search needs
-
-enum-known-c1 : tie.Need-enum-known-c1
-enum-known-c1 c = search needs
-
-within-requires-2 : tie.Need-within-requires-2
-within-requires-2 c κs = search needs
-
-enum-known-c2 : tie.Need-enum-known-c2
-enum-known-c2 c = search needs
-
-within-requires-3 : tie.Need-within-requires-3
-within-requires-3 c κs = search needs
-
-enum-known-c3 : tie.Need-enum-known-c3
-enum-known-c3 c = search needs
-
-enum-known-k : tie.Need-enum-known-k
-enum-known-k c = search needs
-
-enum-known-k-2 : tie.Need-enum-known-k-2
-enum-known-k-2 c = search needs
-
-enum-known-k-3 : tie.Need-enum-known-k-3
-enum-known-k-3 c = search needs
-
 returns : tie.Need-returns
 unfolding fieldsCheck
 returns c =
@@ -66,16 +39,5 @@ pub fields-check-spec : {M : Type 1} → statement M
 fields-check-spec =
     tie.close
     (tie.spec
-    within-requires
-    enum-known-c1
-    within-requires-2
-    enum-known-c2
-    within-requires-3
-    enum-known-c3
-    enum-known-k
-    enum-known-k-2
-    enum-known-k-3
-    returns
-    returns-2
-    returns-3
-    returns-4)
+    (λ c κs. search needs) (λ c. search needs) (λ c κs. search needs) (λ c. search needs) (λ c κs. search needs) (λ c. search needs)
+    (λ c. search needs) (λ c. search needs) (λ c. search needs) returns returns-2 returns-3 returns-4)

@@ -15,4 +15,7 @@ returns-4 : tie.Need-returns-4
 returns-4 c = simp (ne-eqb _ 1 (c .match .rest .0 .0 .1), ne-eqb _ 3 (c .match .rest .0 .1), ne-eqb _ 6 (c .match .rest .1))
 
 pub first-field-spec : {M : Type 1} → statement M
-first-field-spec = tie.close (tie.spec returns returns-2 returns-3 returns-4)
+first-field-spec =
+    tie.close
+    (tie.spec
+    returns returns-2 returns-3 returns-4)

@@ -4,21 +4,12 @@ use borrow.Author.Needs.{needs}
 use Rattle.layout.proofs.parts.limited.Statement.{statement}
 use Rattle.layout.proofs.parts.limited.Tie as tie
 
-within-requires : tie.Need-within-requires
-within-requires c κs = search needs
-
-enum-known-v : tie.Need-enum-known-v
-enum-known-v c = search needs
-
 returns : tie.Need-returns
 unfolding limited
 returns c =
     let p = c .before .before in
     let q = p .before .before in
     simp (← q .within .ensures, p .v .given .1, lt-ltb _ _ (c .if1 .taken))
-
-enum-known-k : tie.Need-enum-known-k
-enum-known-k c = search needs
 
 returns-2 : tie.Need-returns-2
 unfolding limited
@@ -33,4 +24,6 @@ returns-3 c = simp (← c .before .before .before .within .ensures, c .before .k
 
 pub limited-spec : {M : Type 1} → statement M
 limited-spec =
-    tie.close (tie.spec within-requires enum-known-v returns enum-known-k returns-2 returns-3)
+    tie.close
+    (tie.spec
+    (λ c κs. search needs) (λ c. search needs) returns (λ c. search needs) returns-2 returns-3)

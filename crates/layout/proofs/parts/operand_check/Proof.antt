@@ -4,30 +4,6 @@ use borrow.Author.Needs.{needs}
 use Rattle.layout.proofs.parts.operand_check.Statement.{statement}
 use Rattle.layout.proofs.parts.operand_check.Tie as tie
 
-within-requires : tie.Need-within-requires
-within-requires c κs = search needs
-
-enum-known-kind : tie.Need-enum-known-kind
-enum-known-kind c = search needs
-
-var-check-requires : tie.Need-var-check-requires
-var-check-requires c κs = search needs
-
-var-check-requires-2 : tie.Need-var-check-requires-2
-var-check-requires-2 c κs = search needs
-
-flag-field-requires : tie.Need-flag-field-requires
-flag-field-requires c κs = search needs
-
-first-field-requires : tie.Need-first-field-requires
-first-field-requires c κs = search needs
-
-fields-check-requires : tie.Need-fields-check-requires
-fields-check-requires c κs = search needs
-
-enum-known-k : tie.Need-enum-known-k
-enum-known-k c = search needs
-
 returns : tie.Need-returns
 unfolding operandCheck
 returns c =
@@ -63,15 +39,5 @@ pub operand-check-spec : {M : Type 1} → statement M
 operand-check-spec =
     tie.close
     (tie.spec
-    within-requires
-    enum-known-kind
-    var-check-requires
-    var-check-requires-2
-    flag-field-requires
-    first-field-requires
-    fields-check-requires
-    enum-known-k
-    returns
-    returns-2
-    returns-3
-    returns-4)
+    (λ c κs. search needs) (λ c. search needs) (λ c κs. search needs) (λ c κs. search needs) (λ c κs. search needs) (λ c κs. search needs)
+    (λ c κs. search needs) (λ c. search needs) returns returns-2 returns-3 returns-4)

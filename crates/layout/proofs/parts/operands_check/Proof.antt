@@ -15,26 +15,11 @@ abbrev μ-loop : tie.MeasureT-loop
 loop-holds : tie.Need-loop-holds Inv-loop μ-loop
 loop-holds c = record { is = refl }
 
-operand-check-requires : tie.Need-operand-check-requires Inv-loop μ-loop
-operand-check-requires c κs = search needs
-
-enum-known-next : tie.Need-enum-known-next Inv-loop μ-loop
-enum-known-next c = search needs
-
-enum-known-number : tie.Need-enum-known-number Inv-loop μ-loop
-enum-known-number c = search needs
-
 returns : tie.Need-returns Inv-loop μ-loop
 unfolding operandsCheck
 returns c =
     let p = c .before .before .before in
     stops _ _ (p .before .before .loop .inv) (p .before .loop-test .taken) (simp (← p .operand-check .ensures, c .before .number .given .1))
-
-sub-left : tie.Need-sub-left Inv-loop μ-loop
-sub-left c = omega arith
-
-loop-less : tie.Need-loop-less Inv-loop μ-loop
-loop-less c = omega arith
 
 loop-again : tie.Need-loop-again Inv-loop μ-loop
 unfolding operandsCheck
@@ -50,14 +35,5 @@ pub operands-check-spec : {M : Type 1} → statement M
 operands-check-spec =
     tie.close
     (tie.spec
-    Inv-loop
-    μ-loop
-    loop-holds
-    operand-check-requires
-    enum-known-next
-    enum-known-number
-    returns
-    sub-left
-    loop-less
-    loop-again
-    returns-2)
+    Inv-loop μ-loop loop-holds (λ c κs. search needs) (λ c. search needs) (λ c. search needs) returns (λ c. omega arith) (λ c. omega arith)
+    loop-again returns-2)

@@ -4,21 +4,6 @@ use borrow.Author.Needs.{needs}
 use Rattle.layout.proofs.parts.return_check.Statement.{statement}
 use Rattle.layout.proofs.parts.return_check.Tie as tie
 
-within-requires : tie.Need-within-requires
-within-requires c κs = search needs
-
-enum-known-code : tie.Need-enum-known-code
-enum-known-code c = search needs
-
-within-requires-2 : tie.Need-within-requires-2
-within-requires-2 c κs = search needs
-
-enum-known-c2 : tie.Need-enum-known-c2
-enum-known-c2 c = search needs
-
-enum-known-k : tie.Need-enum-known-k
-enum-known-k c = search needs
-
 returns : tie.Need-returns
 unfolding returnCheck
 returns c =
@@ -35,12 +20,6 @@ returns-2 c =
     let r = q .before .before in
     simp (← r .within .ensures, q .code .given .1, eq-eqb _ _ (p .before .if1 .taken), ← p .within2 .ensures, c .before .k .given .1)
 
-count-check-requires : tie.Need-count-check-requires
-count-check-requires c κs = search needs
-
-enum-known-k-2 : tie.Need-enum-known-k-2
-enum-known-k-2 c = search needs
-
 returns-3 : tie.Need-returns-3
 unfolding returnCheck
 returns-3 c =
@@ -56,14 +35,5 @@ pub return-check-spec : {M : Type 1} → statement M
 return-check-spec =
     tie.close
     (tie.spec
-    within-requires
-    enum-known-code
-    within-requires-2
-    enum-known-c2
-    enum-known-k
-    returns
-    returns-2
-    count-check-requires
-    enum-known-k-2
-    returns-3
-    returns-4)
+    (λ c κs. search needs) (λ c. search needs) (λ c κs. search needs) (λ c. search needs) (λ c. search needs) returns returns-2
+    (λ c κs. search needs) (λ c. search needs) returns-3 returns-4)

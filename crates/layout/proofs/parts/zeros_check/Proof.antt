@@ -15,26 +15,11 @@ abbrev μ-loop : tie.MeasureT-loop
 loop-holds : tie.Need-loop-holds Inv-loop μ-loop
 loop-holds c = record { is = refl }
 
-within-requires : tie.Need-within-requires Inv-loop μ-loop
-within-requires c κs = search needs
-
-enum-known-next : tie.Need-enum-known-next Inv-loop μ-loop
-enum-known-next c = search needs
-
-enum-known-k : tie.Need-enum-known-k Inv-loop μ-loop
-enum-known-k c = search needs
-
 returns : tie.Need-returns Inv-loop μ-loop
 unfolding zerosCheck
 returns c =
     let p = c .before .before .before in
     stops _ _ (p .before .before .loop .inv) (p .before .loop-test .taken) (simp (← p .within .ensures, c .before .k .given .1))
-
-sub-left : tie.Need-sub-left Inv-loop μ-loop
-sub-left c = omega arith
-
-loop-less : tie.Need-loop-less Inv-loop μ-loop
-loop-less c = omega arith
 
 loop-again : tie.Need-loop-again Inv-loop μ-loop
 unfolding zerosCheck
@@ -50,14 +35,5 @@ pub zeros-check-spec : {M : Type 1} → statement M
 zeros-check-spec =
     tie.close
     (tie.spec
-    Inv-loop
-    μ-loop
-    loop-holds
-    within-requires
-    enum-known-next
-    enum-known-k
-    returns
-    sub-left
-    loop-less
-    loop-again
-    returns-2)
+    Inv-loop μ-loop loop-holds (λ c κs. search needs) (λ c. search needs) (λ c. search needs) returns (λ c. omega arith) (λ c. omega arith)
+    loop-again returns-2)

@@ -15,28 +15,10 @@ abbrev μ-loop : tie.MeasureT-loop
 loop-holds : tie.Need-loop-holds Inv-loop μ-loop
 loop-holds c = record { is = refl }
 
-end-check-requires : tie.Need-end-check-requires Inv-loop μ-loop
-end-check-requires c κs = search needs
-
-enum-known-c : tie.Need-enum-known-c Inv-loop μ-loop
-enum-known-c c = search needs
-
 returns : tie.Need-returns Inv-loop μ-loop
 returns c =
     let p = c .before .before .before in
     stops _ _ (p .before .before .loop .inv) (p .before .loop-test .taken) (rw (floats-turn, ← p .end-check .ensures, c .before .c .given .1))
-
-enum-told : tie.Need-enum-told Inv-loop μ-loop
-enum-told c = search needs
-
-within-requires : tie.Need-within-requires Inv-loop μ-loop
-within-requires c κs = search needs
-
-enum-known-next : tie.Need-enum-known-next Inv-loop μ-loop
-enum-known-next c = search needs
-
-enum-known-k : tie.Need-enum-known-k Inv-loop μ-loop
-enum-known-k c = search needs
 
 returns-2 : tie.Need-returns-2 Inv-loop μ-loop
 returns-2 c =
@@ -45,21 +27,12 @@ returns-2 c =
     stops _ _ (q .before .before .loop .inv) (q .before .loop-test .taken)
     (rw (floats-turn, ← q .end-check .ensures, p .before .enum-told .given .1, ← p .within .ensures, c .before .k .given .1))
 
-sub-left : tie.Need-sub-left Inv-loop μ-loop
-sub-left c = omega arith
-
-loop-less : tie.Need-loop-less Inv-loop μ-loop
-loop-less c = omega arith
-
 loop-again : tie.Need-loop-again Inv-loop μ-loop
 loop-again c =
     let p = c .before .before .before in
     let q = p .before .before .before in
     goes-on _ _ (q .before .before .loop .inv) _ (q .before .loop-test .taken)
     (rw (floats-turn, ← q .end-check .ensures, p .before .enum-told .given .1, ← p .within .ensures, c .before .next .given .1))
-
-end-check-requires-2 : tie.Need-end-check-requires-2 Inv-loop μ-loop
-end-check-requires-2 c κs = search needs
 
 returns-3 : tie.Need-returns-3 Inv-loop μ-loop
 unfolding floatsCheck
@@ -69,19 +42,5 @@ pub floats-check-spec : {M : Type 1} → statement M
 floats-check-spec =
     tie.close
     (tie.spec
-    Inv-loop
-    μ-loop
-    loop-holds
-    end-check-requires
-    enum-known-c
-    returns
-    enum-told
-    within-requires
-    enum-known-next
-    enum-known-k
-    returns-2
-    sub-left
-    loop-less
-    loop-again
-    end-check-requires-2
-    returns-3)
+    Inv-loop μ-loop loop-holds (λ c κs. search needs) (λ c. search needs) returns (λ c. search needs) (λ c κs. search needs) (λ c. search needs)
+    (λ c. search needs) returns-2 (λ c. omega arith) (λ c. omega arith) loop-again (λ c κs. search needs) returns-3)

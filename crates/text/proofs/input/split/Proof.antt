@@ -8,9 +8,6 @@ returns : tie.Need-returns
 unfolding splitOf
 returns c = simp (lt-ltb _ _ (c .if1 .taken))
 
-cell-at-requires : tie.Need-cell-at-requires
-cell-at-requires c κs = search needs
-
 returns-2 : tie.Need-returns-2
 unfolding splitOf
 returns-2 c = simp (
@@ -34,4 +31,7 @@ unfolding splitOf
 returns-4 c = simp (le-ltb _ _ (c .before .if1 .left), le-ltb _ _ (c .if2 .left))
 
 pub split-spec : {M : Type 1} → statement M
-split-spec = tie.close (tie.spec returns cell-at-requires returns-2 returns-3 returns-4)
+split-spec =
+    tie.close
+    (tie.spec
+    returns (λ c κs. search needs) returns-2 returns-3 returns-4)

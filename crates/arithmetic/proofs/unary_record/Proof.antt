@@ -1,0 +1,18 @@
+use borrow.Author.Needs.{needs}
+use Rattle.arithmetic.proofs.unary_record.Statement.{statement}
+use Rattle.arithmetic.proofs.unary_record.Tie as tie
+
+returns : tie.Need-returns
+returns c = rw (c .enum-told .given .1)
+
+returns-2 : tie.Need-returns-2
+returns-2 c = rw (c .enum-told2 .given .1)
+
+returns-3 : tie.Need-returns-3
+returns-3 c = rw (c .enum-told3 .given .1)
+
+pub unary-record-spec : {M : Type 1} → statement M
+unary-record-spec =
+    tie.close
+    (tie.spec
+    (λ c. search needs) (λ c. search needs) (λ c. search needs) returns returns-2 returns-3)

@@ -1,0 +1,64 @@
+-- Auxiliary: the records of an instruction and of a body, codegen's `generateInstruction` and `generateBody` on the sheet's cells, by `by-kind` (proofs/Lines)
+-- and `in-turn` (proofs/Running); and what a survey of a body says.
+use Prim.Native.Nat.{ℕ, _*_}
+use mathlib.Core.List.{List}
+use lib.ListN.{length}
+use Rattle.cells.specs.Cells.{cellAt}
+use Rattle.ir.specs.declared.«Type».{«Type» as IrType}
+use Rattle.ir.specs.Types as types
+use Rattle.ir.specs.Types.{Result, ok}
+use Rattle.ir.specs.Function.{typeAt, lineAt, linesAt, bodyFrom}
+use Rattle.layout.specs.declared.Checked.{Checked}
+use Rattle.x86.specs.declared.enums.Instruction.{Instruction}
+use Rattle.codegen.specs.Generation.{Outcome, accepted, refused, generateInstruction, generateBody, endsInRet}
+use Rattle.utils.specs.Answers.{lent}
+use Rattle.body.specs.declared.Surveyed.{Surveyed}
+use Rattle.body.specs.declared.Passed.{Passed}
+
+-- ---- how many records
+
+-- an instruction makes at most so many, a body of the most instructions at most so many, and a function at most so many before its body
+abbrev pub mostRecords : ℕ
+mostRecords = 17
+
+abbrev pub mostInBody : ℕ
+mostInBody = 4096 * mostRecords
+
+abbrev pub mostBefore : ℕ
+mostBefore = 19
+
+-- ---- the records
+
+-- the instruction at cell k, in a function of so many labels and a return type
+abbrev pub lineMade : List ℕ → List ℕ → List ℕ → ℕ → ℕ → IrType → Result (List Instruction)
+lineMade tables offsets s k labels ret = generateInstruction (lent tables offsets) labels ret (lineAt s k)
+
+-- the body, with the offsets that are lent
+unfoldable pub bodyOf : List ℕ → List ℕ → List ℕ → Outcome (List Instruction)
+bodyOf tables offsets s = generateBody (lent tables offsets) (cellAt s 2) (typeAt s 3) 1 (linesAt s (cellAt s 5) (bodyFrom s))
+
+-- an outcome but for the place of its refusal
+abbrev pub withoutPlace : {A : Type 0} → Outcome A → Result A
+withoutPlace (accepted a) = ok a
+withoutPlace (refused n place) = types.refused n
+
+-- ---- what a survey says
+
+-- the number of the records and whether the last of them is Ret
+abbrev pub passedOf : Outcome (List Instruction) → Passed
+passedOf (accepted is) = Passed.Made (length is) (endsInRet is)
+passedOf (refused n i) = Passed.Refused n i
+
+-- the layout comes first
+abbrev pub surveyOf : Checked → Passed → Surveyed
+surveyOf (Checked.Behind c) p = Surveyed.Laid p c
+surveyOf (Checked.Refused n k) p = Surveyed.Wrong n k
+
+-- how many records it has counted
+abbrev pub madeBy : Passed → ℕ
+madeBy (Passed.Made n ret) = n
+madeBy (Passed.Refused n i) = 0
+
+abbrev pub madeIn : Surveyed → ℕ
+madeIn (Surveyed.Laid p c) = madeBy p
+madeIn (Surveyed.Wrong n k) = 0

@@ -1,0 +1,146 @@
+// The body: what its instructions come to, and their records one behind the other.
+mod instruction;
+
+use crate::instruction::generate_instruction;
+use cells::Cursor;
+use cells::cell_at;
+use ir::read::behind;
+use ir::read::body_from;
+use ir::read::type_at;
+use layout::Checked;
+use layout::lists::instrs_check;
+use layout::lists::next_instr;
+use utils::CountResult;
+ghost use mathlib.Core.Path.{_≡_};
+ghost use mathlib.Core.Bool.{true, cond};
+ghost use Prim.Native.Nat.{_+_, _*_, _≤_};
+ghost use lib.Dec.{ltb, eqb};
+ghost use lib.ListN.{length};
+ghost use Rattle.cells.specs.Cells.{cells, cellAt};
+ghost use Rattle.ir.specs.Function.{behind};
+ghost use Rattle.layout.specs.declared.Limited.{Limited};
+ghost use Rattle.layout.specs.Layout.{Laid, cursor, instrCheck, instrsCheck};
+ghost use Rattle.utils.specs.Makes.{after, Makes, Ready};
+ghost use Rattle.body.specs.Head.{headCheck};
+ghost use Rattle.body.specs.Body.{bodyOf, withoutPlace, passedOf, surveyOf, madeIn, mostInBody, mostBefore};
+
+// How many records the instructions make, and whether the last of them is Ret; or a refusal and the number of its instruction, from 1.
+pub enum Passed {
+    Made(u64, bool),
+    Refused(u64, u64),
+}
+
+// What the instructions of a sheet come to, and the cursor behind them; or the first wrong cell.
+pub enum Surveyed {
+    Laid(Passed, Cursor),
+    Wrong(u64, usize),
+}
+
+// Whether the last record is Ret, behind the `n` records of the instruction at cell `k`: those of a Return end in it, and without any the last is as before.
+fn ends(sheet: &[u8], k: usize, n: u64, last: bool) -> bool
+    requires { ⌜ k + 1 ≤ cells (now sheet) ⌝ }
+    ensures { λ r. ⌜ r ≡ cond (ltb 0 n) (eqb (cellAt (now (sheet .entry)) k) 9) last ⌝ }
+{
+    if 0 < n { cell_at(sheet, k) == 9 } else { last }
+}
+
+// Instruction `i` is refused, and `left` follow it: their layout comes first.
+fn rest_laid(sheet: &[u8], left: u64, next: Cursor, number: u64, i: u64) -> Surveyed
+    ensures { λ r. ⌜ r ≡ surveyOf (instrsCheck (now (sheet .entry)) left next) (Passed.Refused number i) ⌝ }
+    ensures { λ r. ⌜ madeIn r ≡ 0 ⌝ }
+{
+    match instrs_check(sheet, left, next) {
+        Checked::Behind(end) => Surveyed::Laid(Passed::Refused(number, i), end),
+        Checked::Refused(n, k) => Surveyed::Wrong(n, k),
+    }
+}
+
+// Where the next instruction starts, or the first wrong cell of this one; the layout was checked before the pass that writes.
+fn next_line(sheet: &[u8], here: Cursor, write: bool) -> Checked
+    requires { ⌜ (write ≡ true → instrCheck (now sheet) here ≡ Checked.Behind (cursor (behind (now sheet) (here .at)))) ⌝ }
+    ensures { λ r. ⌜ r ≡ instrCheck (now (sheet .entry)) here ⌝ }
+{
+    if write {
+        return Checked::Behind(Cursor {
+            at: behind(sheet, here.at),
+        });
+    }
+    next_instr(sheet, here)
+}
+
+// The instructions from a cursor on, the layout and the records of each: counted, or written behind the `first` ones.
+fn walk_body(
+    tables: &[u8],
+    offsets: &[u64],
+    sheet: &[u8],
+    from: Cursor,
+    first: u64,
+    out: &mut [u8],
+    write: bool,
+) -> Surveyed
+    requires { ⌜ headCheck (now sheet) ≡ Limited.Word (cellAt (now sheet) 5) from ⌝ }
+    requires { ⌜ (write ≡ true → Laid (now sheet)) ⌝ }
+    requires { ⌜ first ≤ mostBefore ⌝ }
+    requires { ⌜ Ready write (withoutPlace (bodyOf (now tables) (now offsets) (now sheet))) (64 * first) (length (now out)) ⌝ }
+    ensures { λ r. ⌜ r ≡ surveyOf (instrsCheck (now (sheet .entry)) (cellAt (now (sheet .entry)) 5) from) (passedOf (bodyOf (now (tables .entry)) (now (offsets .entry)) (now (sheet .entry)))) ⌝ }
+    ensures { λ r. ⌜ madeIn r ≤ mostInBody ⌝ }
+    ensures { λ r. ⌜ now (out .exit) ≡ cond write (after (withoutPlace (bodyOf (now (tables .entry)) (now (offsets .entry)) (now (sheet .entry)))) (64 * first) (now (out .entry))) (now (out .entry)) ⌝ }
+{
+    let labels = cell_at(sheet, 2);
+    let ret = type_at(sheet, 3);
+    let mut left = cell_at(sheet, 5);
+    let mut here = from;
+    let mut i: u64 = 1;
+    let mut made: u64 = 0;
+    let mut last = false;
+    while 0 < left {
+        let next = match next_line(sheet, here, write) {
+            Checked::Behind(next) => next,
+            Checked::Refused(number, cell) => return Surveyed::Wrong(number, cell),
+        };
+        let k = here.at;
+        let at = 64 * (first + made) as usize;
+        match generate_instruction(tables, offsets, sheet, k, labels, ret, out, at, write) {
+            CountResult::Records(n) => {
+                last = ends(sheet, k, n, last);
+                made += n;
+                here = next;
+            }
+            CountResult::Refused(number) => {
+                return rest_laid(sheet, left - 1, next, number, i);
+            }
+        }
+        left -= 1;
+        i += 1;
+    }
+    Surveyed::Laid(Passed::Made(made, last), here)
+}
+
+// The layout of every instruction from a cursor on, and how many records they make.
+pub fn survey_body(tables: &[u8], offsets: &[u64], sheet: &[u8], from: Cursor) -> Surveyed
+    requires { ⌜ headCheck (now sheet) ≡ Limited.Word (cellAt (now sheet) 5) from ⌝ }
+    ensures { λ r. ⌜ r ≡ surveyOf (instrsCheck (now (sheet .entry)) (cellAt (now (sheet .entry)) 5) from) (passedOf (bodyOf (now (tables .entry)) (now (offsets .entry)) (now (sheet .entry)))) ⌝ }
+    ensures { λ r. ⌜ madeIn r ≤ mostInBody ⌝ }
+{
+    let mut none = [0u8; 1];
+    walk_body(tables, offsets, sheet, from, 1, &mut none, false)
+}
+
+// The records of every instruction, which none of them refuses, behind the `first` ones, where there is room for them: how many they are.
+pub fn write_body(tables: &[u8], offsets: &[u64], sheet: &[u8], first: u64, out: &mut [u8]) -> u64
+    requires { ⌜ Laid (now sheet) ⌝ }
+    requires { ⌜ first ≤ mostBefore ⌝ }
+    requires { ⌜ Ready true (withoutPlace (bodyOf (now tables) (now offsets) (now sheet))) (64 * first) (length (now out)) ⌝ }
+    ensures { λ r. ⌜ Makes true (withoutPlace (bodyOf (now (tables .entry)) (now (offsets .entry)) (now (sheet .entry)))) (64 * first) (now (out .entry)) (now (out .exit)) (CountResult.Records r) ⌝ }
+{
+    let from = Cursor {
+        at: body_from(sheet),
+    };
+    match walk_body(tables, offsets, sheet, from, first, out, true) {
+        Surveyed::Laid(body, _) => match body {
+            Passed::Made(n, _) => n,
+            Passed::Refused(_, _) => 0,
+        },
+        Surveyed::Wrong(_, _) => 0,
+    }
+}

@@ -1,0 +1,60 @@
+-- Each instruction's list, as codegen defines it, is made of what its look-ups find.
+use Prim.Native.Nat.{ℕ, _+_}
+use mathlib.Core.Path.{_≡_, refl, ap}
+use mathlib.Core.List.{List, _∷_}
+use native.Mathlib.Omega.{arith}
+use Rattle.ir.specs.declared.«Type».{«Type» as IrType}
+use Rattle.ir.specs.declared.VarId.{VarId}
+use Rattle.ir.specs.declared.Operand.{Operand as IrOp}
+use Rattle.ir.specs.Types.{Result, ok, refused, _>>=_, typeSize, operandSize}
+use Rattle.ir.specs.Function.{typeAt, varAt}
+use Rattle.x86.specs.declared.enums.Size.{Size}
+use Rattle.x86.specs.declared.enums.Operand.{Operand}
+use Rattle.x86.specs.Registers.{RAX}
+use Rattle.codegen.specs.Context.{Context, labelAt}
+use Rattle.codegen.specs.Utils.{varSize, convertVar}
+use Rattle.codegen.specs.Instructions.{funcEpilogue, generateReturn, generateCopy, generateZero, generateJmpIfNot, generateLabel, generateJump}
+use Rattle.utils.specs.Sources.{sourceOf, loadOf}
+use Rattle.utils.specs.Makes.{listed}
+use Rattle.utils.proofs.Sources.{rung, rung-of, rung-load, sourced, var-given}
+use Rattle.instructions.specs.Looks.{returnRegister, returnOf, lookCopy, copyOf, lookZero, zeroOf, labelOf, jumpOf, lookBranch, branchOf}
+
+pub return-looked : (ctx : Context) (ret : IrType) (op : IrOp) → generateReturn ctx ret op ≡ listed (sourceOf ctx op) (returnOf ret op)
+unfolding generateReturn
+return-looked ctx ret op = rw (sourced ctx (returnRegister ret) op Size.NoSize) (go (sourceOf ctx op))
+  where
+    go : (r : Result Operand) → ((r >>= λ src. ok (loadOf (returnRegister ret) src (operandSize op))) >>= λ load. ok (load ∷ funcEpilogue)) ≡ listed r (returnOf ret op)
+    go (ok src) = refl
+    go (refused n) = refl
+
+pub copy-looked : (ctx : Context) (dest : VarId) (src : IrOp) → generateCopy ctx dest src ≡ listed (lookCopy ctx dest src) copyOf
+unfolding generateCopy
+copy-looked ctx dest src = rung (convertVar ctx dest) _ _ _ (λ v. rung-of (varSize dest) _ _ _ (var-given dest) (λ z s. rung-load ctx RAX src z _ _ _ s (λ x. refl)))
+
+pub zero-looked : (ctx : Context) (dest : VarId) → generateZero ctx dest ≡ listed (lookZero ctx dest) zeroOf
+unfolding generateZero
+zero-looked ctx dest = rung (typeSize (dest .ty)) _ _ _ (λ n. rung (convertVar ctx dest) _ _ _ (λ v. refl))
+
+pub label-looked : (labels id : ℕ) → generateLabel labels id ≡ listed (labelAt labels id) labelOf
+unfolding generateLabel
+label-looked labels id = go (labelAt labels id)
+  where
+    go : (r : Result ℕ) → (r >>= λ label. ok (labelOf label)) ≡ listed r labelOf
+    go (ok label) = refl
+    go (refused n) = refl
+
+pub jump-looked : (labels id : ℕ) → generateJump labels id ≡ listed (labelAt labels id) jumpOf
+unfolding generateJump
+jump-looked labels id = go (labelAt labels id)
+  where
+    go : (r : Result ℕ) → (r >>= λ label. ok (jumpOf label)) ≡ listed r jumpOf
+    go (ok label) = refl
+    go (refused n) = refl
+
+pub branch-looked : (ctx : Context) (labels : ℕ) (condition : IrOp) (target : ℕ) → generateJmpIfNot ctx labels condition target ≡ listed (lookBranch ctx labels condition target) branchOf
+unfolding generateJmpIfNot
+branch-looked ctx labels condition target = rung-load ctx RAX condition Size.U8 _ _ _ (λ z. refl) (λ x. rung (labelAt labels target) _ _ _ (λ l. refl))
+
+-- dest's type, read at its own cell
+pub dest-type : (s : List ℕ) (k : ℕ) → typeAt s (k + 3) ≡ varAt s (k + 2) .ty
+dest-type s k = ap (typeAt s) (let e : k + 3 ≡ k + 2 + 1 = omega arith in e)

@@ -1,5 +1,0 @@
-pub mod Rest
-pub mod Quick
-pub mod Forms
-pub mod Left
-pub mod Right
