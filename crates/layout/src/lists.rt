@@ -38,14 +38,15 @@ pub fn next_instr(s: &[u8], c: Cursor) -> Checked
     instr_check(s, c)
 }
 
-// It checks `n` instructions from the cursor on.
+// It checks `n` instructions from the cursor on. Only a sheet with an instruction that is refused is read by it, from there on; so it has the cursor alone,
+// and `next_instr` is called from one place, where it is inlined.
 pub fn instrs_check(s: &[u8], n: u64, c: Cursor) -> Checked
     ensures { λ r. ⌜ r ≡ instrsCheck (now (s .entry)) n c ⌝ }
 {
     let mut left = n;
     let mut here = c;
     while 0 < left {
-        match next_instr(s, here) {
+        match instr_check(s, here) {
             Checked::Behind(next) => {
                 here = next;
             }

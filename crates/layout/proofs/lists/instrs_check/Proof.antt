@@ -19,13 +19,13 @@ returns : tie.Need-returns Inv-loop μ-loop
 unfolding instrsCheck
 returns c =
     let p = c .before .before .before in
-    stops _ _ (p .before .before .loop .inv) (p .before .loop-test .taken) (simp (← p .next-instr .ensures, c .before .number .given .1))
+    stops _ _ (p .before .before .loop .inv) (p .before .loop-test .taken) (simp (← p .instr-check .ensures, c .before .number .given .1))
 
 loop-again : tie.Need-loop-again Inv-loop μ-loop
 unfolding instrsCheck
 loop-again c =
     let p = c .before .before .before in
-    goes-on _ _ (p .before .before .loop .inv) _ (p .before .loop-test .taken) (simp (← p .next-instr .ensures, c .before .next .given .1))
+    goes-on _ _ (p .before .before .loop .inv) _ (p .before .loop-test .taken) (simp (← p .instr-check .ensures, c .before .next .given .1))
 
 returns-2 : tie.Need-returns-2 Inv-loop μ-loop
 unfolding instrsCheck
