@@ -1,3 +1,4 @@
 pub mod Results
 pub mod Shapes
 pub mod Refusals
+pub mod Codes

@@ -1,9 +1,8 @@
 -- Krc's codegen/arithmetic.rs, in the Rust's order of evaluation.
-use Prim.Native.Nat.{ℕ, _^_}
+use Prim.Native.Nat.{ℕ, _+_, _-_, _^_}
 use mathlib.Core.List.{List, [], _∷_, _++_}
-use mathlib.Core.Bool.{Bool, true, false, cond, _||_}
-use lib.ListN.{getD}
-use lib.Dec.{eqb}
+use mathlib.Core.Bool.{Bool, true, false, cond, _||_, _&&_}
+use lib.Dec.{eqb, leb}
 use Rattle.cells.specs.Cells.{minus}
 use Rattle.ir.specs.declared.VarId.{VarId}
 use Rattle.ir.specs.declared.Operand.{Operand as IrOp}
@@ -21,6 +20,7 @@ use Rattle.x86.specs.declared.enums.ConditionCode.{ConditionCode}
 use Rattle.x86.specs.declared.enums.Instruction.{Instruction}
 use Rattle.x86.specs.Registers.{xmm, RAX, RCX, RDX}
 use Rattle.x86.specs.Records.{conditionCode}
+use Rattle.x86.specs.Decode.{conditionOf}
 use Rattle.codegen.specs.Context.{Context}
 use Rattle.codegen.specs.Utils.{sizeFrom, varSize, convertVar, convertOperand, loadOperand}
 use Rattle.codegen.specs.Instructions.{move, operandKind}
@@ -81,22 +81,16 @@ shift ctx dest left right op = twoLoads ctx dest left right (λ size. Instructio
 
 -- ---- comparisons
 
--- a condition code's position in Krc's `ConditionCode`, and the ten codes for an unsigned, non-float left: G, GE, L, LE turn to A, AE, B, BE
--- (01, "Krc's files as they stay", 6)
-abbrev pub unsignedCodes : List ConditionCode
-unsignedCodes =
-    ConditionCode.E ∷ ConditionCode.NE ∷ ConditionCode.A ∷ ConditionCode.AE ∷ ConditionCode.B ∷ ConditionCode.BE ∷ ConditionCode.A ∷ ConditionCode.AE
-    ∷ ConditionCode.B ∷ ConditionCode.BE ∷ []
-
+-- for an unsigned, non-float left G, GE, L, LE turn to A, AE, B, BE: codes 2 to 5 become the code plus 4 and the others stay (02, M-103)
 unfoldable pub unsignedCode : ConditionCode → ConditionCode
-unsignedCode cc = getD unsignedCodes (conditionCode cc) cc
+unsignedCode cc = cond (leb 2 (conditionCode cc) && leb (conditionCode cc) 5) (conditionOf (conditionCode cc + 4)) cc
 
--- on floats L and LE become G and GE with the sides swapped, and these A and AE
+-- on floats L and LE become G and GE, the code less 2, with the sides swapped, and these A and AE
 abbrev pub isSwapped : ConditionCode → Bool
 isSwapped cc = eqb (conditionCode cc) 4 || eqb (conditionCode cc) 5
 
-abbrev pub floatCode : ConditionCode → ConditionCode
-floatCode cc = getD (ConditionCode.E ∷ ConditionCode.NE ∷ ConditionCode.A ∷ ConditionCode.AE ∷ ConditionCode.A ∷ ConditionCode.AE ∷ []) (conditionCode cc) cc
+unfoldable pub floatCode : ConditionCode → ConditionCode
+floatCode cc = unsignedCode (cond (isSwapped cc) (conditionOf (conditionCode cc - 2)) cc)
 
 -- equality of floats asks the parity flag too: `sete al ; setnp cl ; and al, cl`, or `setne al ; setp cl ; or al, cl`
 abbrev pub parity : ConditionCode → BinOp → List Instruction

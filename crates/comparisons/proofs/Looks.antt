@@ -1,5 +1,5 @@
 -- A comparison's list by what its look-ups find, and a comparison by left's kind.
-use Prim.Native.Nat.{ℕ, suc, _+_, _*_, _≤_}
+use Prim.Native.Nat.{ℕ, _+_, _*_, _≤_}
 use mathlib.Core.Path.{_≡_, refl}
 use mathlib.Core.List.{List, [], _∷_}
 use mathlib.Core.Bool.{Bool, true, false, cond}
@@ -32,10 +32,6 @@ use Rattle.comparisons.specs.Looks.{moreOf, lookCompared, comparedOf}
 -- the number of the records
 number : (a b : Register) (size : Size) (op : BinOp) (cc : ConditionCode) (more : List Instruction) (t : Sides) → length more + 5 ≡ length (comparedOf a b size op cc more t)
 number a b size op cc more t = omega (arith, length-append more (move (t .var) (Operand.Reg RAX) (t .stored) ∷ []))
-
--- what the `_` of a `match` on numbers leaves, arm by arm
-pub next : {n k : ℕ} → n ≤ k → (k ≡ n → ⊥) → suc n ≤ k
-next l h = omega arith
 
 -- the parity flag asks two records
 pub two : {more : More} {second : ConditionCode} {join : BinOp} → more ≡ More.Parity second join → length (moreOf more) ≡ 2

@@ -53,22 +53,15 @@ pub enum More {
     Parity(ConditionCode, BinOp),
 }
 
-// For an unsigned, non-float left: G, GE, L, LE turn to A, AE, B, BE.
+// For an unsigned, non-float left G, GE, L, LE turn to A, AE, B, BE: codes 2 to 5 become the code plus 4.
 fn unsigned_code(cc: ConditionCode) -> ConditionCode
     ensures { λ r. ⌜ r ≡ unsignedCode cc ⌝ }
 {
-    match cc.code() {
-        0 => ConditionCode::E,
-        1 => ConditionCode::NE,
-        2 => ConditionCode::A,
-        3 => ConditionCode::AE,
-        4 => ConditionCode::B,
-        5 => ConditionCode::BE,
-        6 => ConditionCode::A,
-        7 => ConditionCode::AE,
-        8 => ConditionCode::B,
-        9 => ConditionCode::BE,
-        _ => cc,
+    let number = cc.code();
+    if 2 <= number && number <= 5 {
+        ConditionCode::of(number + 4)
+    } else {
+        cc
     }
 }
 
@@ -78,21 +71,6 @@ fn integer_code(unsigned: bool, cc: ConditionCode) -> ConditionCode
     if unsigned { unsigned_code(cc) } else { cc }
 }
 
-// On floats L and LE become G and GE with the sides swapped, and these A and AE.
-fn float_code(cc: ConditionCode) -> ConditionCode
-    ensures { λ r. ⌜ r ≡ floatCode cc ⌝ }
-{
-    match cc.code() {
-        0 => ConditionCode::E,
-        1 => ConditionCode::NE,
-        2 => ConditionCode::A,
-        3 => ConditionCode::AE,
-        4 => ConditionCode::A,
-        5 => ConditionCode::AE,
-        _ => cc,
-    }
-}
-
 fn is_swapped(cc: ConditionCode) -> bool
     ensures { λ r. ⌜ r ≡ isSwapped cc ⌝ }
 {
@@ -100,6 +78,17 @@ fn is_swapped(cc: ConditionCode) -> bool
         4 => true,
         5 => true,
         _ => false,
+    }
+}
+
+// On floats L and LE become G and GE, the code less 2, with the sides swapped, and these A and AE.
+fn float_code(cc: ConditionCode) -> ConditionCode
+    ensures { λ r. ⌜ r ≡ floatCode cc ⌝ }
+{
+    if is_swapped(cc) {
+        unsigned_code(ConditionCode::of(cc.code() - 2))
+    } else {
+        unsigned_code(cc)
     }
 }
 

@@ -1,7 +1,7 @@
 -- Records read back: from eight cells to the instruction that has them, and from bytes to a list (01, "Record").
 use Prim.Native.Nat.{ℕ, zero, suc, _+_, _-_, _^_, _<_}
-use mathlib.Core.List.{List, [], _∷_}
-use mathlib.Core.Option.{Option, none, some}
+use mathlib.Core.List.{List, [], _∷_, map}
+use mathlib.Core.Option.{Option, none, some, Option·getD}
 use mathlib.Core.Bool.{Bool, cond, _&&_}
 use lib.Dec.{eqb, ltb}
 use lib.ListN.{getElem?}
@@ -22,7 +22,7 @@ use Rattle.x86.specs.declared.enums.ExtendOp.{ExtendOp}
 use Rattle.x86.specs.declared.enums.ConvOp.{ConvOp}
 use Rattle.x86.specs.declared.enums.Instruction.{Instruction}
 use Rattle.x86.specs.Registers.{gpr, rbpPlus, ripString, ripFloat}
-use Rattle.x86.specs.Records.{Record, recordOf}
+use Rattle.x86.specs.Records.{Record, conditionCode, recordOf}
 
 infixl 20 _>>=_
 abbrev pub _>>=_ : {A B : Type 0} → Option A → (A → Option B) → Option B
@@ -37,10 +37,15 @@ lookUp (e ∷ es) k = cond (eqb (e .0) k) (some (e .1)) (lookUp es k)
 abbrev pub sizes : List (ℕ × Size)
 sizes = (0, Size.NoSize) ∷ (1, Size.U8) ∷ (2, Size.U16) ∷ (4, Size.U32) ∷ (8, Size.U64) ∷ []
 
+-- the codes of conditions, each with its number: the numbers are `conditionCode`'s alone
 abbrev pub conditions : List (ℕ × ConditionCode)
 conditions =
-    (0, ConditionCode.E) ∷ (1, ConditionCode.NE) ∷ (2, ConditionCode.G) ∷ (3, ConditionCode.GE) ∷ (4, ConditionCode.L) ∷ (5, ConditionCode.LE)
-    ∷ (6, ConditionCode.A) ∷ (7, ConditionCode.AE) ∷ (8, ConditionCode.B) ∷ (9, ConditionCode.BE) ∷ (14, ConditionCode.P) ∷ (15, ConditionCode.NP) ∷ []
+    map (λ (cc : ConditionCode). (conditionCode cc, cc)) (ConditionCode.E ∷ ConditionCode.NE ∷ ConditionCode.G ∷ ConditionCode.GE ∷ ConditionCode.L
+    ∷ ConditionCode.LE ∷ ConditionCode.A ∷ ConditionCode.AE ∷ ConditionCode.B ∷ ConditionCode.BE ∷ ConditionCode.P ∷ ConditionCode.NP ∷ [])
+
+-- the way back from a number to its code; a number that no code has gives NP
+abbrev pub conditionOf : ℕ → ConditionCode
+conditionOf k = Option·getD (lookUp conditions k) ConditionCode.NP
 
 abbrev pub binaries : List (ℕ × BinOp)
 binaries =

@@ -4,6 +4,7 @@ use crate::register::Register;
 ghost use mathlib.Core.Path.{_≡_};
 ghost use Prim.Native.Nat.{_<_};
 ghost use Rattle.x86.specs.Records.{sizePosition, sizeCode, tagOf, valueOf, conditionCode, binCode, shiftCode, complexCode, unaryCode, stackCode, ctrlCode, prefixCode, stringCode, extendCode, convCode};
+ghost use Rattle.x86.specs.Decode.{conditionOf};
 
 // Krc's `Option<Size>`.
 pub enum Size {
@@ -107,6 +108,26 @@ impl ConditionCode {
             ConditionCode::BE => 9,
             ConditionCode::P => 14,
             ConditionCode::NP => 15,
+        }
+    }
+
+    // The way back from `code`; a number that no code has gives NP.
+    pub fn of(number: u64) -> ConditionCode
+        ensures { λ r. ⌜ r ≡ conditionOf number ⌝ }
+    {
+        match number {
+            0 => ConditionCode::E,
+            1 => ConditionCode::NE,
+            2 => ConditionCode::G,
+            3 => ConditionCode::GE,
+            4 => ConditionCode::L,
+            5 => ConditionCode::LE,
+            6 => ConditionCode::A,
+            7 => ConditionCode::AE,
+            8 => ConditionCode::B,
+            9 => ConditionCode::BE,
+            14 => ConditionCode::P,
+            _ => ConditionCode::NP,
         }
     }
 }

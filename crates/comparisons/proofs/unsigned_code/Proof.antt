@@ -1,21 +1,26 @@
-use native.Mathlib.Omega.{arith}
-use lib.ListN.{List·getD-eq-default}
-use Rattle.codegen.specs.Arithmetic.{unsignedCodes, unsignedCode}
-use Rattle.comparisons.proofs.Looks.{next}
-use mathlib.Core.Path.{sym}
-use Rattle.x86.specs.Records.{conditionCode}
+use Prim.Native.Nat.{ℕ, _+_}
+use mathlib.Core.Path.{_∙_, ap}
+use mathlib.Core.Logic.{⊎-elim}
+use borrow.Author.Tests.{leb-true, leb-false}
+use Rattle.x86.specs.Decode.{conditionOf}
+use Rattle.comparisons.proofs.Codes.{moved, stays-low, stays-high}
 use borrow.Author.Needs.{needs}
 use Rattle.comparisons.proofs.unsigned_code.Statement.{statement}
 use Rattle.comparisons.proofs.unsigned_code.Tie as tie
 
-returns-11 : tie.Need-returns-11
-unfolding unsignedCode
-returns-11 c = sym (List·getD-eq-default unsignedCodes (c .before .before .args .cc) {n = conditionCode (c .before .before .args .cc)} (rw (c .before .code .ensures .0) at (next (next (next (next (next (next (next (next (next (next (omega arith) (c .match .rest .0 .0 .0 .0 .0 .0 .0 .0 .0 .1)) (c .match .rest .0 .0 .0 .0 .0 .0 .0 .0 .1)) (c .match .rest .0 .0 .0 .0 .0 .0 .0 .1)) (c .match .rest .0 .0 .0 .0 .0 .0 .1)) (c .match .rest .0 .0 .0 .0 .0 .1)) (c .match .rest .0 .0 .0 .0 .1)) (c .match .rest .0 .0 .0 .1)) (c .match .rest .0 .0 .1)) (c .match .rest .0 .1)) (c .match .rest .1))))
+returns : tie.Need-returns
+returns c =
+    let e = c .before .before .before .code .ensures .0 in
+    c .of .ensures ∙ ap (λ (n : ℕ). conditionOf (n + 4)) e
+    ∙ moved (c .before .before .before .before .args .cc) (rw e at (c .before .before .if1 .taken)) (leb-true _ 5 (rw e at (c .before .if2 .taken)))
+
+returns-2 : tie.Need-returns-2
+returns-2 c =
+    let e = c .before .code .ensures .0 in
+    ⊎-elim (λ w. stays-high (c .before .before .args .cc) (leb-false _ 5 (rw e at (w .1 .left)))) (λ w. stays-low (c .before .before .args .cc) (rw e at (w .left))) (c .if1 .came)
 
 pub unsigned-code-spec : {M : Type 1} → statement M
-unfolding unsignedCode
 unsigned-code-spec =
     tie.close
     (tie.spec
-    (λ c κs. search needs) (λ c. search needs) (λ c. search needs) (λ c. search needs) (λ c. search needs) (λ c. search needs) (λ c. search needs)
-    (λ c. search needs) (λ c. search needs) (λ c. search needs) (λ c. search needs) returns-11)
+    (λ c κs. search needs) (λ c. search needs) (λ c κs. search needs) returns returns-2)
