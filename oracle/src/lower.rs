@@ -1,4 +1,4 @@
-//! The reference answer: Krc's own list, or the refusal.
+//! The reference answer: Krc's own list, with what the rules of src/rules set, or the refusal.
 
 use std::sync::Mutex;
 
@@ -6,6 +6,7 @@ use crate::panics::catch;
 use crate::plain;
 use crate::program::program;
 use crate::read::{Refusal, read_sheet, read_tables};
+use crate::rules;
 use crate::sheet::{Sheet, Tables};
 use krc::codegen::generation::generate;
 use krc::elf::instructions::LabelId;
@@ -42,8 +43,15 @@ fn fit(list: Vec<Record>, out_len: u64) -> Result<Vec<Record>, Refusal> {
     Ok(list)
 }
 
-/// Krc's list, or refusals 4 to 8 with their place.
+/// Krc's list with what the rules set, or refusals 4 to 8 with their place.
 pub fn lower(tables: &Tables, sheet: &Sheet) -> Result<Vec<Record>, Refusal> {
+    let mut list = krc_list(tables, sheet)?;
+    rules::apply(tables, sheet, &mut list);
+    Ok(list)
+}
+
+/// Krc's own list, or refusals 4 to 8 with their place.
+fn krc_list(tables: &Tables, sheet: &Sheet) -> Result<Vec<Record>, Refusal> {
     let whole = sheet.body.len();
     run_krc(tables, sheet, whole).map_err(|number| {
         let refused = |length: &usize| run_krc(tables, sheet, *length).is_err();
@@ -51,7 +59,7 @@ pub fn lower(tables: &Tables, sheet: &Sheet) -> Result<Vec<Record>, Refusal> {
     })
 }
 
-/// Krc's list of a function that is accepted.
+/// The list of a function that is accepted.
 pub fn list(tables: &Tables, sheet: &Sheet) -> Vec<Record> {
     lower(tables, sheet).expect("a plain function lowers")
 }

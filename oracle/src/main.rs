@@ -18,6 +18,7 @@ mod processor;
 mod program;
 mod read;
 mod rng;
+mod rules;
 mod runs;
 mod sheet;
 mod show;

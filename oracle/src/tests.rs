@@ -280,6 +280,28 @@ fn returns_and_arguments_take_no_width() {
 }
 
 #[test]
+fn short_floats_at_their_size() {
+    // float 0 is long, float 1 short
+    for (ret, load) in [(LONG, [0, 0, 1, 0]), (FLOAT, [0, 11, 1, 16])] {
+        for (id, size) in [(0, 8), (1, 4)] {
+            let body = vec![Instr::Return(Operand::Float(id))];
+            let list = lowered(&Sheet { return_type: Some(Type::scalar(ret)), ..sheet(body) })
+                .expect("it lowers");
+            assert_eq!((&list[3][..4], &list[3][4..]), (&load[..], &[7, id, size, 0][..]));
+        }
+    }
+    let args =
+        vec![Operand::Float(1), short(5), Operand::Float(0), Operand::Float(1), read(SHORT_FLOAT)];
+    let call = block(Instr::Call { dest: None, symbol: 0, args });
+    let sizes: Vec<i64> = call.iter().map(|record| record[6]).collect();
+    assert_eq!(sizes, [4, 4, 8, 4, 4, 0, 0]);
+    // where a size is given it stays
+    let copy = block(Instr::Copy { dest: own(FLOAT), src: Operand::Float(1) });
+    assert_eq!(copy[0], [0, 0, 1, 0, 7, 1, 8, 0]);
+    assert_eq!(lowered(&sheet(vec![Instr::Return(Operand::Float(2))])), Err((5, 1)));
+}
+
+#[test]
 fn strings_as_operands() {
     use binary::*;
     let string = Operand::DataAddress(0);

@@ -6,7 +6,7 @@ use Rattle.layout.specs.Layout.{endCheck, floatsCheck, tablesCheck, limited, co
 use Rattle.ir.specs.Function.{binaryOp, tablesOf, operandAt, unaryOp, instrAt, argumentsAt, behind, typesAt, varsAt, operandsAt, linesAt, functionOf}
 use Rattle.x86.specs.Records.{recordOf, recordBytes, listBytes}
 use Rattle.codegen.specs.Context.{displacement, stringAt, floatAt, floatShort, labelAt}
-use Rattle.codegen.specs.Utils.{sizeFrom, varSize, convertVar, convertOperand, loadFrom, loadString, loadValue, loadOperand}
+use Rattle.codegen.specs.Utils.{sizeFrom, varSize, convertVar, convertOperand, ownSize, loadFrom, loadString, loadValue, loadOperand}
 use Rattle.codegen.specs.Instructions.{generateReturn, operandKind, generateCopy, castOperand, castBetween, generateCast, generateZero, loadArgument, loadArguments, storeResult, generateCall, generateJmpIfNot, generateLabel, generateJump}
 use Rattle.codegen.specs.Arithmetic.{simpleOperation, floatOperation, twoLoads, division, multiplication, shift, unsignedCode, compared, floatComparison, comparison, generateBinary, generateUnary}
 use Rattle.codegen.specs.Frame.{offsetsFrom, haveWidths, varOffsets, storeParams, funcPrologue}
@@ -19,5 +19,5 @@ use Rattle.machine.specs.Frames.{offsetFrom}
 use Rattle.cases.specs.Cases.{Hold}
 
 pub twelve : Hold
-unfolding bytesOf word half readCell readWithin bytes typeSize isFloat isUnsigned elementWidth elfSize operandSize endCheck floatsCheck tablesCheck limited countCheck zerosCheck fieldsCheck typeCheck returnCheck varCheck operandCheck operandsCheck destCheck sideCheck callCheck bodyCheck instrCheck typesCheck varsCheck instrsCheck listsCheck restCheck sheetCheck binaryOp tablesOf operandAt unaryOp instrAt argumentsAt behind typesAt varsAt operandsAt linesAt functionOf recordOf recordBytes listBytes displacement stringAt floatAt floatShort labelAt sizeFrom varSize convertVar convertOperand loadFrom loadString loadValue loadOperand generateReturn operandKind generateCopy castOperand castBetween generateCast generateZero loadArgument loadArguments storeResult generateCall generateJmpIfNot generateLabel generateJump simpleOperation floatOperation twoLoads division multiplication shift unsignedCode compared floatComparison comparison generateBinary generateUnary offsetsFrom lastOffset haveWidths varOffsets storeParams funcPrologue generateInstr generateBody endsInRet withEpilogue generate compiled lowered recordsAfter number bitwise known x86.merge x86.find x86.exec x86.run steps.width steps.binary steps.unary steps.cast steps.find steps.exec steps.run offsetFrom
+unfolding bytesOf word half readCell readWithin bytes typeSize isFloat isUnsigned elementWidth elfSize operandSize endCheck floatsCheck tablesCheck limited countCheck zerosCheck fieldsCheck typeCheck returnCheck varCheck operandCheck operandsCheck destCheck sideCheck callCheck bodyCheck instrCheck typesCheck varsCheck instrsCheck listsCheck restCheck sheetCheck binaryOp tablesOf operandAt unaryOp instrAt argumentsAt behind typesAt varsAt operandsAt linesAt functionOf recordOf recordBytes listBytes displacement stringAt floatAt floatShort labelAt sizeFrom varSize convertVar convertOperand ownSize loadFrom loadString loadValue loadOperand generateReturn operandKind generateCopy castOperand castBetween generateCast generateZero loadArgument loadArguments storeResult generateCall generateJmpIfNot generateLabel generateJump simpleOperation floatOperation twoLoads division multiplication shift unsignedCode compared floatComparison comparison generateBinary generateUnary offsetsFrom lastOffset haveWidths varOffsets storeParams funcPrologue generateInstr generateBody endsInRet withEpilogue generate compiled lowered recordsAfter number bitwise known x86.merge x86.find x86.exec x86.run steps.width steps.binary steps.unary steps.cast steps.find steps.exec steps.run offsetFrom
 twelve = record { table = refl; entered = record { going = refl; first = refl; aligned = refl; upward = refl } }

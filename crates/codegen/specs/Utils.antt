@@ -73,9 +73,19 @@ loadFrom reg src size =
 unfoldable pub loadString : Context → Register → ℕ → Result Instruction
 loadString ctx reg k = stringAt ctx k >>= λ s. ok (Instruction.Lea (ripString s) reg Size.NoSize)
 
+-- an operand's own size: a float constant has that of its table's entry (02, M-102), any other that of `Operand::size`
+unfoldable pub ownSize : Context → IrOp → Size
+ownSize ctx (IrOp.Var v) = operandSize (IrOp.Var v)
+ownSize ctx (IrOp.Int n short unsigned) = operandSize (IrOp.Int n short unsigned)
+ownSize ctx (IrOp.Float k) = cond (ctx .tables .short k) Size.U32 Size.U64
+ownSize ctx (IrOp.Bool b) = operandSize (IrOp.Bool b)
+ownSize ctx (IrOp.Address v) = operandSize (IrOp.Address v)
+ownSize ctx (IrOp.DataAddress k) = operandSize (IrOp.DataAddress k)
+ownSize ctx IrOp.Null = operandSize IrOp.Null
+
 -- any other operand; the size is the operand's own where none is given
 unfoldable pub loadValue : Context → Register → IrOp → Size → Result Instruction
-loadValue ctx reg op size = convertOperand ctx op >>= λ src. ok (loadFrom reg src (sizeOr size (operandSize op)))
+loadValue ctx reg op size = convertOperand ctx op >>= λ src. ok (loadFrom reg src (sizeOr size (ownSize ctx op)))
 
 unfoldable pub loadOperand : Context → Register → IrOp → Size → Result Instruction
 loadOperand ctx reg (IrOp.Var v) size = loadValue ctx reg (IrOp.Var v) size

@@ -6,24 +6,24 @@ use native.Mathlib.Omega.{arith}
 use Rattle.ir.specs.declared.«Type».{«Type» as IrType}
 use Rattle.ir.specs.declared.VarId.{VarId}
 use Rattle.ir.specs.declared.Operand.{Operand as IrOp}
-use Rattle.ir.specs.Types.{Result, ok, refused, _>>=_, typeSize, operandSize}
+use Rattle.ir.specs.Types.{Result, ok, refused, _>>=_, typeSize}
 use Rattle.ir.specs.Function.{typeAt, varAt}
 use Rattle.x86.specs.declared.enums.Size.{Size}
 use Rattle.x86.specs.declared.enums.Operand.{Operand}
 use Rattle.x86.specs.Registers.{RAX}
 use Rattle.codegen.specs.Context.{Context, labelAt}
-use Rattle.codegen.specs.Utils.{varSize, convertVar}
+use Rattle.codegen.specs.Utils.{varSize, convertVar, ownSize}
 use Rattle.codegen.specs.Instructions.{funcEpilogue, generateReturn, generateCopy, generateZero, generateJmpIfNot, generateLabel, generateJump}
 use Rattle.utils.specs.Sources.{sourceOf, loadOf}
 use Rattle.utils.specs.Makes.{listed}
 use Rattle.utils.proofs.Sources.{rung, rung-of, rung-load, sourced, var-given}
 use Rattle.instructions.specs.Looks.{returnRegister, returnOf, lookCopy, copyOf, lookZero, zeroOf, labelOf, jumpOf, lookBranch, branchOf}
 
-pub return-looked : (ctx : Context) (ret : IrType) (op : IrOp) → generateReturn ctx ret op ≡ listed (sourceOf ctx op) (returnOf ret op)
+pub return-looked : (ctx : Context) (ret : IrType) (op : IrOp) → generateReturn ctx ret op ≡ listed (sourceOf ctx op) (returnOf ctx ret op)
 unfolding generateReturn
 return-looked ctx ret op = rw (sourced ctx (returnRegister ret) op Size.NoSize) (go (sourceOf ctx op))
   where
-    go : (r : Result Operand) → ((r >>= λ src. ok (loadOf (returnRegister ret) src (operandSize op))) >>= λ load. ok (load ∷ funcEpilogue)) ≡ listed r (returnOf ret op)
+    go : (r : Result Operand) → ((r >>= λ src. ok (loadOf (returnRegister ret) src (ownSize ctx op))) >>= λ load. ok (load ∷ funcEpilogue)) ≡ listed r (returnOf ctx ret op)
     go (ok src) = refl
     go (refused n) = refl
 

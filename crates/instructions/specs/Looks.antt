@@ -5,7 +5,7 @@ use mathlib.Core.Bool.{cond}
 use Rattle.ir.specs.declared.«Type».{«Type» as IrType}
 use Rattle.ir.specs.declared.VarId.{VarId}
 use Rattle.ir.specs.declared.Operand.{Operand as IrOp}
-use Rattle.ir.specs.Types.{Result, ok, refused, _>>=_, typeSize, isFloat, operandSize}
+use Rattle.ir.specs.Types.{Result, ok, refused, _>>=_, typeSize, isFloat}
 use Rattle.x86.specs.declared.register.Register.{Register}
 use Rattle.x86.specs.declared.enums.Size.{Size}
 use Rattle.x86.specs.declared.enums.Operand.{Operand}
@@ -17,7 +17,7 @@ use Rattle.x86.specs.declared.enums.Prefix.{Prefix}
 use Rattle.x86.specs.declared.enums.Instruction.{Instruction}
 use Rattle.x86.specs.Registers.{xmm, RAX, RCX, RDI}
 use Rattle.codegen.specs.Context.{Context, labelAt}
-use Rattle.codegen.specs.Utils.{varSize, convertVar}
+use Rattle.codegen.specs.Utils.{varSize, convertVar, ownSize}
 use Rattle.codegen.specs.Instructions.{move, funcEpilogue}
 use Rattle.utils.specs.Sources.{sourceOf, loadOf}
 use Rattle.instructions.specs.declared.Moved.{Moved}
@@ -32,8 +32,8 @@ use Rattle.instructions.specs.declared.ZeroedResult.{ZeroedResult}
 abbrev pub returnRegister : IrType → Register
 returnRegister ret = cond (isFloat ret) (xmm 0) RAX
 
-abbrev pub returnOf : IrType → IrOp → Operand → List Instruction
-returnOf ret op src = loadOf (returnRegister ret) src (operandSize op) ∷ funcEpilogue
+abbrev pub returnOf : Context → IrType → IrOp → Operand → List Instruction
+returnOf ctx ret op src = loadOf (returnRegister ret) src (ownSize ctx op) ∷ funcEpilogue
 
 -- ---- copies
 

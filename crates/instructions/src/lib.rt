@@ -1,7 +1,6 @@
 // Krc's codegen/instructions.rs, but for casts and calls: the records of one instruction, counted or written.
 use cells::cell_at;
 use ir::Type;
-use ir::read::operand_at;
 use ir::read::type_at;
 use ir::types::Number;
 use utils::CountResult;
@@ -9,6 +8,7 @@ use utils::OperandResult;
 use utils::SizeResult;
 use utils::convert_var_at;
 use utils::mov;
+use utils::own_size_at;
 use utils::put_load;
 use utils::source_at;
 use utils::var_size_at;
@@ -27,7 +27,6 @@ ghost use mathlib.Core.Path.{_≡_};
 ghost use Prim.Native.Nat.{_+_, _≤_};
 ghost use lib.ListN.{length};
 ghost use Rattle.cells.specs.Cells.{cells, cellAt, write};
-ghost use Rattle.ir.specs.Types.{operandSize};
 ghost use Rattle.ir.specs.Function.{varAt, operandAt};
 ghost use Rattle.ir.specs.Answers.{numberSays};
 ghost use Rattle.x86.specs.Records.{listBytes};
@@ -108,14 +107,6 @@ fn return_register(ret: Type) -> Register
     }
 }
 
-fn operand_size(s: &[u8], k: usize) -> Size
-    requires { ⌜ k + 4 ≤ cells (now s) ⌝ }
-    ensures { λ r. ⌜ r ≡ operandSize (operandAt (now (s .entry)) k) ⌝ }
-{
-    let op = operand_at(s, k);
-    op.size()
-}
-
 // A load, then the epilogue.
 pub fn generate_return(
     tables: &[u8],
@@ -134,7 +125,13 @@ pub fn generate_return(
     match source_at(tables, offsets, s, k + 5) {
         OperandResult::Is(src) => {
             if write {
-                put_load(out, at, return_register(ret), src, operand_size(s, k + 5));
+                put_load(
+                    out,
+                    at,
+                    return_register(ret),
+                    src,
+                    own_size_at(tables, offsets, s, k + 5),
+                );
                 func_epilogue(out, at + 64);
             }
             CountResult::Records(4)

@@ -66,7 +66,7 @@ module _ (tables : Tables) (F : Function) (a : Accepted tables F) where
   line-slots : (k : ℕ) (l : Line) (r : List Line) → drop k (F .body) ≡ l ∷ r → All (InSlots (F .vars) (Names tables (l .instr) (l .args))) (records tables F l)
   line-slots k l r d =
       let N : Naming = Names tables (l .instr) (l .args) in
-      made-all (F .vars) N ⊥ (InSlots (F .vars) N) (λ i s. s .slots) (epilogue-slots N) (l .instr) (l .args) (records tables F l) (λ q. absurd q)
+      made-all (F .vars) N ⊥ (InSlots (F .vars) N) (λ i s. s .slots) tables (epilogue-slots N) (l .instr) (l .args) (records tables F l) (λ q. absurd q)
       (own-slots N (l .instr)) (line-made tables F a ⊥ k l r (λ q. absurd q) d)
 
   front-slots : All (InSlots (F .vars) (NamesOne (F .params))) (front tables F)

@@ -32,7 +32,7 @@ use Rattle.x86.specs.Registers.{number, RAX, RCX, RDX, xmm, rbpPlus, ripString,
 use Rattle.x86.specs.Records.{conditionCode}
 use Rattle.x86.specs.Decode.{FitsRegister}
 use Rattle.codegen.specs.Context.{Context, stringAt, floatAt, floatShort, labelAt}
-use Rattle.codegen.specs.Utils.{sizeFrom, varSize, convertVar, convertOperand, sizeOr, loadFrom, loadString, loadValue, loadOperand}
+use Rattle.codegen.specs.Utils.{sizeFrom, varSize, convertVar, convertOperand, sizeOr, ownSize, loadFrom, loadString, loadValue, loadOperand}
 use Rattle.codegen.specs.Instructions.{move, Kind, Source, source, operandKind, paramRegs, paramFregs, funcEpilogue, floating, generateReturn, generateCopy, castOperand, widened, converted, extended, castBetween, isCopy, generateCast, generateZero, loadArgument, loadArguments, storeResult, generateCall, generateJmpIfNot, generateLabel, generateJump}
 use Rattle.codegen.specs.Arithmetic.{simpleOperation, floatOperation, twoLoads, dividing, division, multiplication, shift, isSwapped, floatCode, parity, ordered, compared, floatComparison, comparison, floatBinary, integerBinary, generateBinary, signBit, unaryRecords, generateUnary}
 use Rattle.codegen.specs.Generation.{generateInstr}
@@ -90,22 +90,22 @@ bytes-lt ty = go (isScalar ty)
 -- ---- what a Call's loads are
 
 -- the record that brings an argument into a register, by the argument's kind
-abbrev pub Loaded : List IrType → Register → IrOp → Instruction → Type 0
-Loaded vars r (IrOp.Var v) i = (v .id < length vars) × (i ≡ loadFrom r (rbpPlus (slotOf vars (v .id))) (elfSize (v .ty)))
-Loaded vars r (IrOp.Int n short unsigned) i = i ≡ loadFrom r (Operand.Imm n) (cond short Size.U32 Size.U64)
-Loaded vars r (IrOp.Float k) i = i ≡ loadFrom r (ripFloat k) Size.U64
-Loaded vars r (IrOp.Bool b) i = i ≡ loadFrom r (Operand.Imm (cond b 1 0)) Size.U8
-Loaded vars r (IrOp.Address v) i = ⊥
-Loaded vars r (IrOp.DataAddress k) i = i ≡ Instruction.Lea (ripString k) r Size.NoSize
-Loaded vars r IrOp.Null i = i ≡ loadFrom r (Operand.Imm 0) Size.NoSize
+abbrev pub Loaded : Tables → List IrType → Register → IrOp → Instruction → Type 0
+Loaded tables vars r (IrOp.Var v) i = (v .id < length vars) × (i ≡ loadFrom r (rbpPlus (slotOf vars (v .id))) (elfSize (v .ty)))
+Loaded tables vars r (IrOp.Int n short unsigned) i = i ≡ loadFrom r (Operand.Imm n) (cond short Size.U32 Size.U64)
+Loaded tables vars r (IrOp.Float k) i = i ≡ loadFrom r (ripFloat k) (cond (tables .short k) Size.U32 Size.U64)
+Loaded tables vars r (IrOp.Bool b) i = i ≡ loadFrom r (Operand.Imm (cond b 1 0)) Size.U8
+Loaded tables vars r (IrOp.Address v) i = ⊥
+Loaded tables vars r (IrOp.DataAddress k) i = i ≡ Instruction.Lea (ripString k) r Size.NoSize
+Loaded tables vars r IrOp.Null i = i ≡ loadFrom r (Operand.Imm 0) Size.NoSize
 
 -- the loads of arguments, where i general and f XMM registers are taken
-pub data Loading (vars : List IrType) : ℕ → ℕ → List IrOp → List Instruction → Type 0 where
-  counted : (i f : ℕ) → Loading vars i f [] (move (Operand.Reg RAX) (Operand.Imm f) Size.NoSize ∷ [])
+pub data Loading (tables : Tables) (vars : List IrType) : ℕ → ℕ → List IrOp → List Instruction → Type 0 where
+  counted : (i f : ℕ) → Loading tables vars i f [] (move (Operand.Reg RAX) (Operand.Imm f) Size.NoSize ∷ [])
   a-word : {i f : ℕ} {x : IrOp} {xs : List IrOp} {load : Instruction} {rest : List Instruction} → floating x ≡ false → i < 6
-      → Loaded vars (getD paramRegs i RAX) x load → Loading vars (suc i) f xs rest → Loading vars i f (x ∷ xs) (load ∷ rest)
+      → Loaded tables vars (getD paramRegs i RAX) x load → Loading tables vars (suc i) f xs rest → Loading tables vars i f (x ∷ xs) (load ∷ rest)
   a-float : {i f : ℕ} {x : IrOp} {xs : List IrOp} {load : Instruction} {rest : List Instruction} → floating x ≡ true → f < 8
-      → Loaded vars (getD paramFregs f RAX) x load → Loading vars i (suc f) xs rest → Loading vars i f (x ∷ xs) (load ∷ rest)
+      → Loaded tables vars (getD paramFregs f RAX) x load → Loading tables vars i (suc f) xs rest → Loading tables vars i f (x ∷ xs) (load ∷ rest)
 
 -- an operand that is a variable is named, by n bytes at least
 abbrev pub GivenOperand : Taking → ℕ → IrOp → Type 0
@@ -132,27 +132,27 @@ GivenArguments N [] = Unit {0}
 GivenArguments N (x ∷ xs) = GivenArgument N x × GivenArguments N xs
 
 -- a Call's block
-pub record Calling (vars : List IrType) (N : Naming) (Q : Type 0) (f : ℕ) (args : List IrOp) (b : List Instruction) : Type 0 where
+pub record Calling (tables : Tables) (vars : List IrType) (N : Naming) (Q : Type 0) (f : ℕ) (args : List IrOp) (b : List Instruction) : Type 0 where
   pub loads : List Instruction
   pub store : List Instruction
   pub is : b ≡ loads ++ Instruction.Ctrl CtrlOp.Call (Operand.Sym f) ∷ store
-  pub loading : Loading vars 0 0 args loads
+  pub loading : Loading tables vars 0 0 args loads
   pub given : GivenArguments (N false) args
   pub after : All (Sound vars N Q) store
 
 -- what the records of an instruction are
-abbrev pub Made : List IrType → Naming → Type 0 → Instr → List IrOp → List Instruction → Type 0
-Made vars N Q (Instr.Copy d x) args b = All (Sound vars N Q) b
-Made vars N Q (Instr.Unary d op x) args b = All (Sound vars N Q) b
-Made vars N Q (Instr.Binary d op x y) args b = All (Sound vars N Q) b
-Made vars N Q (Instr.Cast d x) args b = All (Sound vars N Q) b
-Made vars N Q (Instr.Zero d) args b = All (Sound vars N Q) b
-Made vars N Q (Instr.Call d f count) args b = Calling vars N Q f args b
-Made vars N Q (Instr.Label l) args b = b ≡ Instruction.Label l ∷ []
-Made vars N Q (Instr.Jump l) args b = All (Sound vars N Q) b
-Made vars N Q (Instr.JumpIfNot x l) args b = All (Sound vars N Q) b
-Made vars N Q (Instr.Return x) args b = (load : Instruction) × Sound vars N Q load × (b ≡ load ∷ funcEpilogue)
-Made vars N Q Instr.Comment args b = All (Sound vars N Q) b
+abbrev pub Made : Tables → List IrType → Naming → Type 0 → Instr → List IrOp → List Instruction → Type 0
+Made tables vars N Q (Instr.Copy d x) args b = All (Sound vars N Q) b
+Made tables vars N Q (Instr.Unary d op x) args b = All (Sound vars N Q) b
+Made tables vars N Q (Instr.Binary d op x y) args b = All (Sound vars N Q) b
+Made tables vars N Q (Instr.Cast d x) args b = All (Sound vars N Q) b
+Made tables vars N Q (Instr.Zero d) args b = All (Sound vars N Q) b
+Made tables vars N Q (Instr.Call d f count) args b = Calling tables vars N Q f args b
+Made tables vars N Q (Instr.Label l) args b = b ≡ Instruction.Label l ∷ []
+Made tables vars N Q (Instr.Jump l) args b = All (Sound vars N Q) b
+Made tables vars N Q (Instr.JumpIfNot x l) args b = All (Sound vars N Q) b
+Made tables vars N Q (Instr.Return x) args b = (load : Instruction) × Sound vars N Q load × (b ≡ load ∷ funcEpilogue)
+Made tables vars N Q Instr.Comment args b = All (Sound vars N Q) b
 
 -- ---- a Call's loads are sound
 
@@ -192,24 +192,24 @@ given-less : (N : Taking) (v : VarId) {m n : ℕ} → m ≤ n → Given N n v �
 given-less N v h g = (g .0, g .1, omega (arith, g .2))
 
 module _ (vars : List IrType) (N : Naming) (Q : Type 0) where
-  loaded-sound : (r : Register) (x : IrOp) (i : Instruction) → Usable r → GivenArgument (N false) x → (Q → SmallOperand x) → Loaded vars r x i → Sound vars N Q i
-  loaded-sound r (IrOp.Var v) i u g h (k, e) =
+  loaded-sound : (tables : Tables) (r : Register) (x : IrOp) (i : Instruction) → Usable r → GivenArgument (N false) x → (Q → SmallOperand x) → Loaded tables vars r x i → Sound vars N Q i
+  loaded-sound tables r (IrOp.Var v) i u g h (k, e) =
       rw e (load-sound vars N Q r _ _ u (slot-sound vars (N false) Q (span (elfSize (v .ty))) v (rw (passed-span (v .ty)) g) k))
-  loaded-sound r (IrOp.Int n short unsigned) i u g h e = rw e (load-sound vars N Q r _ _ u (tt, h))
-  loaded-sound r (IrOp.Float k) i u g h e = rw e (load-sound vars N Q r _ _ u (tt, h))
-  loaded-sound r (IrOp.Bool b) i u g h e = rw e (load-sound vars N Q r _ _ u (tt, λ q. bit-lt b))
-  loaded-sound r (IrOp.Address v) i u g h e = absurd e
-  loaded-sound r (IrOp.DataAddress k) i u g h e = rw e (lea-sound vars N Q r k u h)
-  loaded-sound r IrOp.Null i u g h e = rw e (load-sound vars N Q r _ _ u (tt, λ q. lit< tt))
+  loaded-sound tables r (IrOp.Int n short unsigned) i u g h e = rw e (load-sound vars N Q r _ _ u (tt, h))
+  loaded-sound tables r (IrOp.Float k) i u g h e = rw e (load-sound vars N Q r _ _ u (tt, h))
+  loaded-sound tables r (IrOp.Bool b) i u g h e = rw e (load-sound vars N Q r _ _ u (tt, λ q. bit-lt b))
+  loaded-sound tables r (IrOp.Address v) i u g h e = absurd e
+  loaded-sound tables r (IrOp.DataAddress k) i u g h e = rw e (lea-sound vars N Q r k u h)
+  loaded-sound tables r IrOp.Null i u g h e = rw e (load-sound vars N Q r _ _ u (tt, λ q. lit< tt))
 
-  pub loading-sound : {i f : ℕ} {xs : List IrOp} {l : List Instruction} → f ≤ 8 → GivenArguments (N false) xs → (Q → SmallOperands xs) → Loading vars i f xs l
+  pub loading-sound : {tables : Tables} {i f : ℕ} {xs : List IrOp} {l : List Instruction} → f ≤ 8 → GivenArguments (N false) xs → (Q → SmallOperands xs) → Loading tables vars i f xs l
       → All (Sound vars N Q) l
   unfolding every
   loading-sound k g h (counted i f) = (into-register vars N Q BinOp.Mov RAX (Operand.Imm f) Size.NoSize (refl, lit< tt) (tt, λ q. omega arith), tt)
-  loading-sound k g h (a-word {i} {x = x} {load = load} e y t ls) =
-      (loaded-sound (getD paramRegs i RAX) x load (usable paramRegs i refl y) (g .0) (λ q. h q .0) t, loading-sound k (g .1) (λ q. h q .1) ls)
-  loading-sound k g h (a-float {f = f} {x = x} {load = load} e y t ls) =
-      (loaded-sound (getD paramFregs f RAX) x load (usable paramFregs f refl y) (g .0) (λ q. h q .0) t, loading-sound y (g .1) (λ q. h q .1) ls)
+  loading-sound {tables} k g h (a-word {i} {x = x} {load = load} e y t ls) =
+      (loaded-sound tables (getD paramRegs i RAX) x load (usable paramRegs i refl y) (g .0) (λ q. h q .0) t, loading-sound k (g .1) (λ q. h q .1) ls)
+  loading-sound {tables} k g h (a-float {f = f} {x = x} {load = load} e y t ls) =
+      (loaded-sound tables (getD paramFregs f RAX) x load (usable paramFregs f refl y) (g .0) (λ q. h q .0) t, loading-sound y (g .1) (λ q. h q .1) ls)
 
 -- ---- parts of the lowering
 
@@ -372,15 +372,15 @@ module _ (tables : Tables) (vars : List IrType) (N : Naming) (Q : Type 0) where
   operand-at n IrOp.Null g h = yields (tt, λ q. lit< tt)
 
   -- a load by a size, or by the operand's own where none is given
-  load-at : (r : Register) (x : IrOp) (z : Size) → Usable r → GivenOperand (N false) (span (sizeOr z (operandSize x))) x → (Q → SmallOperand x)
+  load-at : (r : Register) (x : IrOp) (z : Size) → Usable r → GivenOperand (N false) (span (sizeOr z (ownSize ctx x))) x → (Q → SmallOperand x)
       → Yields (loadOperand ctx r x z) (Sound vars N Q)
   unfolding loadOperand loadValue loadString stringAt
   load-at r x z u w h = go x w h
     where
-      value-at : (x : IrOp) → GivenOperand (N false) (span (sizeOr z (operandSize x))) x → (Q → SmallOperand x) → Yields (loadValue ctx r x z) (Sound vars N Q)
-      value-at x w h = bind (operand-at (span (sizeOr z (operandSize x))) x w h) (λ y g. yields (load-sound vars N Q r y (sizeOr z (operandSize x)) u g))
+      value-at : (x : IrOp) → GivenOperand (N false) (span (sizeOr z (ownSize ctx x))) x → (Q → SmallOperand x) → Yields (loadValue ctx r x z) (Sound vars N Q)
+      value-at x w h = bind (operand-at (span (sizeOr z (ownSize ctx x))) x w h) (λ y g. yields (load-sound vars N Q r y (sizeOr z (ownSize ctx x)) u g))
 
-      go : (x : IrOp) → GivenOperand (N false) (span (sizeOr z (operandSize x))) x → (Q → SmallOperand x) → Yields (loadOperand ctx r x z) (Sound vars N Q)
+      go : (x : IrOp) → GivenOperand (N false) (span (sizeOr z (ownSize ctx x))) x → (Q → SmallOperand x) → Yields (loadOperand ctx r x z) (Sound vars N Q)
       go (IrOp.Var v) w h = value-at (IrOp.Var v) w h
       go (IrOp.Int n short unsigned) w h = value-at (IrOp.Int n short unsigned) w h
       go (IrOp.Float k) w h = value-at (IrOp.Float k) w h
@@ -392,7 +392,7 @@ module _ (tables : Tables) (vars : List IrType) (N : Naming) (Q : Type 0) where
   -- .. by a size of n bytes
   load-by : {n : ℕ} (r : Register) (x : IrOp) (z : Size) → Usable r → Sized n z → GivenOperand (N false) n x → (Q → SmallOperand x)
       → Yields (loadOperand ctx r x z) (Sound vars N Q)
-  load-by r x z u s w h = load-at r x z u (rw (s .own (operandSize x), s .is) w) h
+  load-by r x z u s w h = load-at r x z u (rw (s .own (ownSize ctx x), s .is) w) h
 
   -- RAX, RCX, RDX, RDI, XMM0 and XMM1 are usable
   ax : Usable RAX
@@ -798,10 +798,10 @@ module _ (tables : Tables) (vars : List IrType) (N : Naming) (Q : Type 0) where
 
   return-made : (ret : IrType) (x : IrOp) → GivenArgument (N false) x → (Q → SmallOperand x)
       → Yields (generateReturn ctx ret x) (λ b. (load : Instruction) × Sound vars N Q load × (b ≡ load ∷ funcEpilogue))
-  unfolding generateReturn operandSize
+  unfolding generateReturn ownSize operandSize
   return-made ret x w h = bind (load-at (cond (isFloat ret) (xmm 0) RAX) x Size.NoSize (go (isFloat ret)) (own x w) h) (λ i s. yields (i, s, refl))
     where
-      own : (x : IrOp) → GivenArgument (N false) x → GivenOperand (N false) (span (operandSize x)) x
+      own : (x : IrOp) → GivenArgument (N false) x → GivenOperand (N false) (span (ownSize ctx x)) x
       own (IrOp.Var v) w = rw (passed-span (v .ty)) w
       own (IrOp.Int k short unsigned) w = tt
       own (IrOp.Float k) w = tt
@@ -815,8 +815,8 @@ module _ (tables : Tables) (vars : List IrType) (N : Naming) (Q : Type 0) where
       go false = ax
 
   -- an argument's load
-  loaded : (r : Register) (x : IrOp) → Yields (loadOperand ctx r x Size.NoSize) (Loaded vars r x)
-  unfolding loadOperand loadValue loadString stringAt convertOperand floatAt operandSize
+  loaded : (r : Register) (x : IrOp) → Yields (loadOperand ctx r x Size.NoSize) (Loaded tables vars r x)
+  unfolding loadOperand loadValue loadString stringAt convertOperand floatAt ownSize operandSize
   loaded r (IrOp.Var v) = bind (var-at tables vars v) (λ y p. yields (p .0, rw (p .1)))
   loaded r (IrOp.Int n short unsigned) = yields refl
   loaded r (IrOp.Float k) =
@@ -826,19 +826,19 @@ module _ (tables : Tables) (vars : List IrType) (N : Naming) (Q : Type 0) where
   loaded r (IrOp.DataAddress k) = bind {P = λ f. f ≡ k} (guard 5 (ltb k (tables .strings)) (λ e. yields refl)) (λ f e. yields (rw e))
   loaded r IrOp.Null = yields refl
 
-  arguments : (i f : ℕ) (xs : List IrOp) → Yields (loadArguments ctx i f xs) (Loading vars i f xs)
+  arguments : (i f : ℕ) (xs : List IrOp) → Yields (loadArguments ctx i f xs) (Loading tables vars i f xs)
   unfolding loadArguments loadArgument
   arguments i f [] = yields (counted i f)
   arguments i f (x ∷ xs) = go (arguments i (suc f) xs) (arguments (suc i) f xs)
     where
-      go : Yields (loadArguments ctx i (suc f) xs) (Loading vars i (suc f) xs) → Yields (loadArguments ctx (suc i) f xs) (Loading vars (suc i) f xs)
-          → Yields (loadArguments ctx i f (x ∷ xs)) (Loading vars i f (x ∷ xs))
+      go : Yields (loadArguments ctx i (suc f) xs) (Loading tables vars i (suc f) xs) → Yields (loadArguments ctx (suc i) f xs) (Loading tables vars (suc i) f xs)
+          → Yields (loadArguments ctx i f (x ∷ xs)) (Loading tables vars i f (x ∷ xs))
       go u w =
           choose (floating x)
-          (λ e. bind {P = λ a. (f < 8) × Loaded vars (getD paramFregs f RAX) x a}
+          (λ e. bind {P = λ a. (f < 8) × Loaded tables vars (getD paramFregs f RAX) x a}
           (guard 8 (ltb f 8) (λ h. weaken (loaded (getD paramFregs f RAX) x) (λ a g. (ltb-true f 8 h, g))))
           (λ a g. bind u (λ l h. yields (a-float e (g .0) (g .1) h))))
-          (λ e. bind {P = λ a. (i < 6) × Loaded vars (getD paramRegs i RAX) x a}
+          (λ e. bind {P = λ a. (i < 6) × Loaded tables vars (getD paramRegs i RAX) x a}
           (guard 8 (ltb i 6) (λ h. weaken (loaded (getD paramRegs i RAX) x) (λ a g. (ltb-true i 6 h, g))))
           (λ a g. bind w (λ l h. yields (a-word e (g .0) (g .1) h))))
 
@@ -853,7 +853,7 @@ module _ (tables : Tables) (vars : List IrType) (N : Naming) (Q : Type 0) where
       bind (var-at tables vars v) (λ y p. bind (var-size-is v) (λ z u. yields
       (either vars N Q (isFloat (v .ty)) (store-at BinOp.StoreF v y (xmm 0) z u g p (lit< tt)) (store-at BinOp.Mov v y RAX z u g p (lit< tt)), tt)))
 
-  call-made : (d : Dest) (f : ℕ) (xs : List IrOp) → GivenResult d → GivenArguments (N false) xs → Yields (generateCall ctx d f xs) (Calling vars N Q f xs)
+  call-made : (d : Dest) (f : ℕ) (xs : List IrOp) → GivenResult d → GivenArguments (N false) xs → Yields (generateCall ctx d f xs) (Calling tables vars N Q f xs)
   unfolding generateCall
   call-made d f xs e w =
       bind (arguments 0 0 xs) (λ l h. bind (results d e) (λ s g. yields (record { loads = l; store = s; is = refl; loading = h; given = w; after = g })))
@@ -905,7 +905,7 @@ module _ (tables : Tables) (vars : List IrType) (Q : Type 0) where
   call-result N (Dest.Var d) f = whole-var (N true) d f
 
   pub made : (labels : ℕ) (ret : IrType) (i : Instr) (args : List IrOp) → (Q → SmallInstr i args)
-      → Yields (generateInstr context labels ret i args) (Made vars (Names tables i args) Q i args)
+      → Yields (generateInstr context labels ret i args) (Made tables vars (Names tables i args) Q i args)
   unfolding generateInstr generateBinary
   made labels ret (Instr.Copy d x) args h =
       copies tables vars (Names tables (Instr.Copy d x) args) Q d x (whole-var (Names tables (Instr.Copy d x) args true) d (λ v w z. z)) (taken-operand (Names tables (Instr.Copy d x) args false) (bytes (d .ty)) x (λ v w z. z)) h
@@ -952,17 +952,17 @@ module _ (vars : List IrType) (N : Naming) (Q : Type 0) (P : Instruction → Typ
   pub sound-all : (b : List Instruction) → All (Sound vars N Q) b → All P b
   sound-all b h = all-map (Sound vars N Q) P b of h
 
-  pub made-all : All P funcEpilogue → (i : Instr) (args : List IrOp) (b : List Instruction) → (Q → SmallInstr i args) → Own P i → Made vars N Q i args b → All P b
-  made-all t (Instr.Copy d x) args b q w m = sound-all b m
-  made-all t (Instr.Unary d op x) args b q w m = sound-all b m
-  made-all t (Instr.Binary d op x y) args b q w m = sound-all b m
-  made-all t (Instr.Cast d x) args b q w m = sound-all b m
-  made-all t (Instr.Zero d) args b q w m = sound-all b m
-  made-all t (Instr.Call d f count) args b q w m =
+  pub made-all : (tables : Tables) → All P funcEpilogue → (i : Instr) (args : List IrOp) (b : List Instruction) → (Q → SmallInstr i args) → Own P i → Made tables vars N Q i args b → All P b
+  made-all tables t (Instr.Copy d x) args b q w m = sound-all b m
+  made-all tables t (Instr.Unary d op x) args b q w m = sound-all b m
+  made-all tables t (Instr.Binary d op x y) args b q w m = sound-all b m
+  made-all tables t (Instr.Cast d x) args b q w m = sound-all b m
+  made-all tables t (Instr.Zero d) args b q w m = sound-all b m
+  made-all tables t (Instr.Call d f count) args b q w m =
       rw (m .is)
       (all-append P (m .loads) _ (sound-all (m .loads) (loading-sound vars N Q (omega arith) (m .given) (λ z. q z .1) (m .loading))) (w, sound-all (m .store) (m .after)))
-  made-all t (Instr.Label l) args b q w m = rw m (w, tt)
-  made-all t (Instr.Jump l) args b q w m = sound-all b m
-  made-all t (Instr.JumpIfNot x l) args b q w m = sound-all b m
-  made-all t (Instr.Return x) args b q w (i, s, e) = rw e (of i s, t)
-  made-all t Instr.Comment args b q w m = sound-all b m
+  made-all tables t (Instr.Label l) args b q w m = rw m (w, tt)
+  made-all tables t (Instr.Jump l) args b q w m = sound-all b m
+  made-all tables t (Instr.JumpIfNot x l) args b q w m = sound-all b m
+  made-all tables t (Instr.Return x) args b q w (i, s, e) = rw e (of i s, t)
+  made-all tables t Instr.Comment args b q w m = sound-all b m

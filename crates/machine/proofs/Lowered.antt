@@ -28,7 +28,7 @@ use Rattle.x86.specs.declared.enums.Prefix.{Prefix}
 use Rattle.x86.specs.declared.enums.Instruction.{Instruction}
 use Rattle.x86.specs.Registers.{gpr, RAX, RCX, RDX, RDI, rbpPlus}
 use Rattle.codegen.specs.Context.{Context}
-use Rattle.codegen.specs.Utils.{sizeFrom, varSize, convertVar, convertOperand, sizeOr, isOneByte, isConstant, loadFrom, loadValue, loadOperand}
+use Rattle.codegen.specs.Utils.{sizeFrom, varSize, convertVar, convertOperand, sizeOr, isOneByte, isConstant, ownSize, loadFrom, loadValue, loadOperand}
 use Rattle.codegen.specs.Instructions.{move, kind, operandKind, source, funcEpilogue, generateReturn, generateCopy, castOperand, widened, castBetween, generateCast, generateZero, generateJmpIfNot, generateJump}
 use Rattle.codegen.specs.Arithmetic.{simpleOperation, twoLoads, dividing, division, multiplication, shift, unsignedCode, compared, comparison, integerBinary, generateBinary, unaryRecords, generateUnary}
 use Rattle.codegen.specs.Generation.{generateInstr}
@@ -222,7 +222,7 @@ module _ (tables : Tables) (F : Function) where
   operand-is IrOp.Null h = refl
 
   load-is : (r : Register) (x : IrOp) (z : Size) → PlainOperand F x → loadOperand ctx r x z ≡ ok (load F r x (sizeOr z (operandSize x)))
-  unfolding loadOperand loadValue
+  unfolding loadOperand loadValue ownSize
   load-is r (IrOp.Var v) z h = rw (operand-is (IrOp.Var v) h)
   load-is r (IrOp.Int v short unsigned) z h = rw (operand-is (IrOp.Int v short unsigned) h)
   load-is r (IrOp.Float k) z h = absurd h

@@ -12,7 +12,7 @@ use Rattle.ir.specs.Function.{tablesOf, operandAt, instrAt, argumentsAt, behind
 use Rattle.layout.specs.Layout.{endCheck, floatsCheck, tablesCheck, limited, countCheck, zerosCheck, fieldsCheck, typeCheck, returnCheck, varCheck, operandCheck, operandsCheck, destCheck, sideCheck, callCheck, bodyCheck, instrCheck, typesCheck, varsCheck, instrsCheck, listsCheck, restCheck, sheetCheck}
 use Rattle.x86.specs.declared.enums.Instruction.{Instruction}
 use Rattle.codegen.specs.Context.{displacement}
-use Rattle.codegen.specs.Utils.{sizeFrom, varSize, convertVar, convertOperand, loadFrom, loadValue, loadOperand}
+use Rattle.codegen.specs.Utils.{sizeFrom, varSize, convertVar, convertOperand, ownSize, loadFrom, loadValue, loadOperand}
 use Rattle.codegen.specs.Instructions.{generateReturn}
 use Rattle.codegen.specs.Frame.{offsetsFrom, haveWidths, varOffsets, storeParams, funcPrologue}
 use Rattle.codegen.specs.Generation.{Outcome, accepted, refused, generateInstr, generateBody, endsInRet, withEpilogue, generate, compiled, lowered, recordsAfter}
@@ -68,7 +68,7 @@ pub record Premises : Type 0 where
   pub enters : Entry entry
 
 pub premises : Premises
-unfolding bytesOf word half readCell readWithin bytes lastOffset typeSize isFloat isUnsigned elementWidth elfSize operandSize tablesOf operandAt instrAt argumentsAt behind typesAt varsAt operandsAt linesAt functionOf endCheck floatsCheck tablesCheck limited countCheck zerosCheck fieldsCheck typeCheck returnCheck varCheck operandCheck operandsCheck destCheck sideCheck callCheck bodyCheck instrCheck typesCheck varsCheck instrsCheck listsCheck restCheck sheetCheck displacement sizeFrom varSize convertVar convertOperand loadFrom loadValue loadOperand generateReturn offsetsFrom haveWidths varOffsets storeParams funcPrologue generateInstr generateBody endsInRet withEpilogue generate compiled lowered every areDistinct isPlainHead isPlainInstr isPlainAt isFault
+unfolding bytesOf word half readCell readWithin bytes lastOffset typeSize isFloat isUnsigned elementWidth elfSize operandSize tablesOf operandAt instrAt argumentsAt behind typesAt varsAt operandsAt linesAt functionOf endCheck floatsCheck tablesCheck limited countCheck zerosCheck fieldsCheck typeCheck returnCheck varCheck operandCheck operandsCheck destCheck sideCheck callCheck bodyCheck instrCheck typesCheck varsCheck instrsCheck listsCheck restCheck sheetCheck displacement sizeFrom varSize convertVar convertOperand ownSize loadFrom loadValue loadOperand generateReturn offsetsFrom haveWidths varOffsets storeParams funcPrologue generateInstr generateBody endsInRet withEpilogue generate compiled lowered every areDistinct isPlainHead isPlainInstr isPlainAt isFault
 premises =
     record {
       accepts = refl;

@@ -118,21 +118,21 @@ floats (x ∷ xs) = cond (isFloatArgument x) (x ∷ floats xs) (floats xs)
 abbrev pub passedBytes : IrType → ℕ
 passedBytes ty = cond (isScalar ty) (cond (eqb (elementWidth (ty .code)) 0) 8 (elementWidth (ty .code))) 8
 
--- an argument as a number: a variable's bytes, a constant, a float constant's eight bytes, a string's address
-abbrev pub argument : List IrType → IrOp → State → ℕ
-argument vars (IrOp.Var v) s = load (s .mem) ((s .regs 5 + slotOf vars (v .id)) % W) (passedBytes (v .ty))
-argument vars (IrOp.Int n short unsigned) s = n % bound (cond short 4 8)
-argument vars (IrOp.Float k) s = load (s .mem) (s .links Base.Float k % W) 8
-argument vars (IrOp.Bool b) s = cond b 1 0
-argument vars (IrOp.Address v) s = 0
-argument vars (IrOp.DataAddress k) s = s .links Base.String k % W
-argument vars IrOp.Null s = 0
+-- an argument as a number: a variable's bytes, a constant, a float constant's bytes, four of a short one and eight of a long one, a string's address
+abbrev pub argument : Tables → List IrType → IrOp → State → ℕ
+argument tables vars (IrOp.Var v) s = load (s .mem) ((s .regs 5 + slotOf vars (v .id)) % W) (passedBytes (v .ty))
+argument tables vars (IrOp.Int n short unsigned) s = n % bound (cond short 4 8)
+argument tables vars (IrOp.Float k) s = load (s .mem) (s .links Base.Float k % W) (cond (tables .short k) 4 8)
+argument tables vars (IrOp.Bool b) s = cond b 1 0
+argument tables vars (IrOp.Address v) s = 0
+argument tables vars (IrOp.DataAddress k) s = s .links Base.String k % W
+argument tables vars IrOp.Null s = 0
 
 -- s is the state at the first record of a Call's block, s′ that at its Call: the registers hold the arguments, with zeros above, and RAX the
 -- number of those in XMM registers (System V ABI, 3.2.3)
-pub record Passed (vars : List IrType) (xs : List IrOp) (s s′ : State) : Type 0 where
-  pub inWords : (k : ℕ) → k < length (words xs) → s′ .regs (getD abiRegisters k 0) ≡ argument vars (getD (words xs) k IrOp.Null) s
-  pub inFloats : (k : ℕ) → k < length (floats xs) → s′ .regs (16 + k) ≡ argument vars (getD (floats xs) k IrOp.Null) s
+pub record Passed (tables : Tables) (vars : List IrType) (xs : List IrOp) (s s′ : State) : Type 0 where
+  pub inWords : (k : ℕ) → k < length (words xs) → s′ .regs (getD abiRegisters k 0) ≡ argument tables vars (getD (words xs) k IrOp.Null) s
+  pub inFloats : (k : ℕ) → k < length (floats xs) → s′ .regs (16 + k) ≡ argument tables vars (getD (floats xs) k IrOp.Null) s
   pub few : (length (words xs) ≤ 6) × (length (floats xs) ≤ 8)
   pub count : s′ .regs 0 ≡ length (floats xs)
 
@@ -292,7 +292,7 @@ pub record Called (tables : Tables) (F : Function) (c : List Instruction) (R : �
   pub records : m ≡ length args + suc from
   pub running : R from .status ≡ x86.running
   pub first : R from .pos ≡ place tables F number
-  pub passed : K from m → Passed (F .vars) args (R from) (R m)
+  pub passed : K from m → Passed tables (F .vars) args (R from) (R m)
 
 -- ---- parameters
 

@@ -5,7 +5,7 @@ use mathlib.Core.Bool.{Bool, true, false, cond}
 use mathlib.Core.List.{List, [], _∷_}
 use denote.Enum.Declared.{tagOf}
 use types.Run.{OneOf, miss}
-use lib.Dec.{eqb}
+use lib.Dec.{eqb, ltb}
 use Rattle.ir.proofs.Operand as irOperand
 use Rattle.ir.specs.declared.VarId.{VarId}
 use Rattle.ir.specs.declared.Operand.{Operand as IrOp}
@@ -15,11 +15,12 @@ use Rattle.x86.specs.declared.enums.Size.{Size}
 use Rattle.x86.specs.declared.enums.Operand.{Operand}
 use Rattle.x86.specs.declared.enums.Instruction.{Instruction}
 use Rattle.x86.specs.Registers.{rbpPlus, ripString, ripFloat}
-use Rattle.codegen.specs.Context.{Context, displacement, stringAt, floatAt}
-use Rattle.codegen.specs.Utils.{sizeFrom, varSize, convertVar, convertOperand, sizeOr, loadFrom, loadString, loadValue, loadOperand}
-use Rattle.codegen.proofs.Results.{Yields, yields, refuses, bind, any}
-use Rattle.utils.specs.Sources.{sourceOf, isString, loadOf}
+use Rattle.codegen.specs.Context.{Context, displacement, stringAt, floatAt, floatShort}
+use Rattle.codegen.specs.Utils.{sizeFrom, varSize, convertVar, convertOperand, sizeOr, ownSize, loadFrom, loadString, loadValue, loadOperand}
+use Rattle.codegen.proofs.Results.{Yields, never, yields, refuses, bind, any}
+use Rattle.utils.specs.Sources.{sourceOf, HasOwnSize, isString, loadOf}
 use Rattle.utils.specs.Makes.{listed, alone}
+use Rattle.utils.proofs.Rest.{float-place}
 
 -- of an operand that is no string's address
 pub not-data : (ctx : Context) (x : IrOp) → OneOf (0 ∷ 1 ∷ 2 ∷ 3 ∷ 4 ∷ 6 ∷ []) (tagOf irOperand.the-type x) → convertOperand ctx x ≡ sourceOf ctx x
@@ -30,6 +31,33 @@ not-data ctx (IrOp.Bool b) h = refl
 not-data ctx (IrOp.Address v) h = refl
 not-data ctx (IrOp.DataAddress k) h = absurd (miss (0 ∷ 1 ∷ 2 ∷ 3 ∷ 4 ∷ 6 ∷ []) 5 tt h)
 not-data ctx IrOp.Null h = refl
+
+-- ---- an operand's own size
+
+-- of an operand that is no float constant
+pub not-float : (ctx : Context) (x : IrOp) → OneOf (0 ∷ 1 ∷ 3 ∷ 4 ∷ 5 ∷ 6 ∷ []) (tagOf irOperand.the-type x) → operandSize x ≡ ownSize ctx x
+unfolding ownSize
+not-float ctx (IrOp.Var v) h = refl
+not-float ctx (IrOp.Int n s u) h = refl
+not-float ctx (IrOp.Float k) h = absurd (miss (0 ∷ 1 ∷ 3 ∷ 4 ∷ 5 ∷ 6 ∷ []) 2 tt h)
+not-float ctx (IrOp.Bool b) h = refl
+not-float ctx (IrOp.Address v) h = refl
+not-float ctx (IrOp.DataAddress k) h = refl
+not-float ctx IrOp.Null h = refl
+
+-- of a float constant, as its table has it
+pub float-own : (ctx : Context) (k : ℕ) (short : Bool) → floatShort ctx k ≡ ok short → HasOwnSize ctx (IrOp.Float k) (cond short Size.U32 Size.U64)
+unfolding floatShort ownSize
+float-own ctx k short e src h = go (ltb k (ctx .tables .floats)) e
+  where
+    go : (b : Bool) → cond b (ok (ctx .tables .short k)) (refused 5) ≡ ok short → cond short Size.U32 Size.U64 ≡ cond (ctx .tables .short k) Size.U32 Size.U64
+    go true e = cc
+    go false e = absurd (never e)
+
+-- one beyond its table has no source
+pub float-beyond : (ctx : Context) (k n : ℕ) (z : Size) → floatShort ctx k ≡ refused n → HasOwnSize ctx (IrOp.Float k) z
+unfolding convertOperand
+float-beyond ctx k n z e src h = absurd (never (rw (float-place ctx k, e) at h))
 
 -- ---- THE LADDER: a list that is made behind look-ups is made of what they find. A rung for each look-up, in the Rust's order
 
@@ -76,18 +104,18 @@ module _ (reg : Register) (z : Size) where
   a-string (ok k) = refl
   a-string (refused n) = refl
 
-pub sourced : (ctx : Context) (reg : Register) (op : IrOp) (size : Size) → loadOperand ctx reg op size ≡ (sourceOf ctx op >>= λ src. ok (loadOf reg src (sizeOr size (operandSize op))))
+pub sourced : (ctx : Context) (reg : Register) (op : IrOp) (size : Size) → loadOperand ctx reg op size ≡ (sourceOf ctx op >>= λ src. ok (loadOf reg src (sizeOr size (ownSize ctx op))))
 unfolding loadOperand loadValue loadString convertOperand convertVar
-sourced ctx reg (IrOp.Var v) size = no-string reg (sizeOr size (operandSize (IrOp.Var v))) rbpPlus (λ k. refl) (displacement ctx (v .id))
+sourced ctx reg (IrOp.Var v) size = no-string reg (sizeOr size (ownSize ctx (IrOp.Var v))) rbpPlus (λ k. refl) (displacement ctx (v .id))
 sourced ctx reg (IrOp.Int n s u) size = refl
-sourced ctx reg (IrOp.Float k) size = no-string reg (sizeOr size (operandSize (IrOp.Float k))) ripFloat (λ k. refl) (floatAt ctx k)
+sourced ctx reg (IrOp.Float k) size = no-string reg (sizeOr size (ownSize ctx (IrOp.Float k))) ripFloat (λ k. refl) (floatAt ctx k)
 sourced ctx reg (IrOp.Bool b) size = refl
 sourced ctx reg (IrOp.Address v) size = refl
-sourced ctx reg (IrOp.DataAddress k) size = a-string reg (sizeOr size (operandSize (IrOp.DataAddress k))) (stringAt ctx k)
+sourced ctx reg (IrOp.DataAddress k) size = a-string reg (sizeOr size (ownSize ctx (IrOp.DataAddress k))) (stringAt ctx k)
 sourced ctx reg IrOp.Null size = refl
 
 sized : (ctx : Context) (reg : Register) (op : IrOp) (size : Size) → Given size → loadOperand ctx reg op size ≡ (sourceOf ctx op >>= λ src. ok (loadOf reg src size))
-sized ctx reg op size h = rw (h (operandSize op)) at (sourced ctx reg op size)
+sized ctx reg op size h = rw (h (ownSize ctx op)) at (sourced ctx reg op size)
 
 -- .. that is a load of a size that is given
 pub rung-load : {B : Type 0} (ctx : Context) (reg : Register) (op : IrOp) (z : Size) (f : Instruction → Result (List Instruction)) (g : Operand → Result B) (h : B → List Instruction)
@@ -100,9 +128,9 @@ rung-load ctx reg op z f g h s e = rw (sized ctx reg op z s) (go (sourceOf ctx o
 
 -- ---- a load alone, at the operand's own size
 
-pub load-looked : (ctx : Context) (reg : Register) (op : IrOp) → alone (loadOperand ctx reg op Size.NoSize) ≡ listed (sourceOf ctx op) (λ src. loadOf reg src (operandSize op) ∷ [])
+pub load-looked : (ctx : Context) (reg : Register) (op : IrOp) → alone (loadOperand ctx reg op Size.NoSize) ≡ listed (sourceOf ctx op) (λ src. loadOf reg src (ownSize ctx op) ∷ [])
 load-looked ctx reg op = rw (sourced ctx reg op Size.NoSize) (go (sourceOf ctx op))
   where
-    go : (r : Result Operand) → alone (r >>= λ src. ok (loadOf reg src (operandSize op))) ≡ listed r (λ src. loadOf reg src (operandSize op) ∷ [])
+    go : (r : Result Operand) → alone (r >>= λ src. ok (loadOf reg src (ownSize ctx op))) ≡ listed r (λ src. loadOf reg src (ownSize ctx op) ∷ [])
     go (ok src) = refl
     go (refused n) = refl

@@ -1,4 +1,5 @@
 -- Auxiliary: a load in two parts, its look-up and its record; `loadOperand` is these two, by `sourced` (proofs/Sources).
+use mathlib.Core.Path.{_≡_}
 use mathlib.Core.Bool.{Bool, true, false, cond}
 use Rattle.ir.specs.declared.Operand.{Operand as IrOp}
 use Rattle.ir.specs.Types.{Result, ok, _>>=_}
@@ -9,7 +10,7 @@ use Rattle.x86.specs.declared.enums.Operand.{Operand}
 use Rattle.x86.specs.declared.enums.Instruction.{Instruction}
 use Rattle.x86.specs.Registers.{ripString}
 use Rattle.codegen.specs.Context.{Context, stringAt}
-use Rattle.codegen.specs.Utils.{convertOperand, loadFrom}
+use Rattle.codegen.specs.Utils.{convertOperand, ownSize, loadFrom}
 
 -- what an operand is loaded from: a string's address, or the operand
 abbrev pub sourceOf : Context → IrOp → Result Operand
@@ -20,6 +21,10 @@ sourceOf ctx (IrOp.Bool b) = convertOperand ctx (IrOp.Bool b)
 sourceOf ctx (IrOp.Address v) = convertOperand ctx (IrOp.Address v)
 sourceOf ctx (IrOp.DataAddress k) = stringAt ctx k >>= λ s. ok (ripString s)
 sourceOf ctx IrOp.Null = convertOperand ctx IrOp.Null
+
+-- z is the own size of an operand that is found; of a float constant beyond its table nothing is said
+abbrev pub HasOwnSize : Context → IrOp → Size → Type 0
+HasOwnSize ctx op z = (src : Operand) → sourceOf ctx op ≡ ok src → z ≡ ownSize ctx op
 
 abbrev pub isStringBase : Base → Bool
 isStringBase Base.Rbp = false

@@ -32,7 +32,7 @@ ghost use Rattle.codegen.specs.Context.{displacement, stringAt, floatShort};
 ghost use Rattle.codegen.specs.Utils.{sizeFrom, varSize, convertVar, convertOperand, isOneByte, isConstant, loadOperand};
 ghost use Rattle.codegen.specs.Instructions.{move};
 ghost use Rattle.utils.specs.Answers.{sizeSays, operandSays, boolSays, lent};
-ghost use Rattle.utils.specs.Sources.{sourceOf, isString, loadOf};
+ghost use Rattle.utils.specs.Sources.{sourceOf, HasOwnSize, isString, loadOf};
 ghost use Rattle.utils.specs.Makes.{alone, Makes, Ready};
 
 // A truth value, a size, an operand or a number of records; or the number of a refusal.
@@ -189,6 +189,26 @@ pub fn source(tables: &[u8], offsets: &[u64], op: IrOp) -> OperandResult
     convert_operand(tables, offsets, op)
 }
 
+// A float constant's size, by its table.
+fn float_size(tables: &[u8], offsets: &[u64], id: u64) -> Size
+    ensures { λ r. ⌜ HasOwnSize (lent (now (tables .entry)) (now (offsets .entry))) (IrOp.Float id) r ⌝ }
+{
+    match float_short(tables, offsets, id) {
+        BoolResult::Is(short) => { if short { Size::U32 } else { Size::U64 } }
+        BoolResult::Refused(_) => Size::U64,
+    }
+}
+
+// The size of an operand where none is given. It is asked for behind the look-up of the source: a float constant that has none has no size.
+pub fn own_size(tables: &[u8], offsets: &[u64], op: IrOp) -> Size
+    ensures { λ r. ⌜ HasOwnSize (lent (now (tables .entry)) (now (offsets .entry))) op r ⌝ }
+{
+    if let IrOp::Float(id) = op {
+        return float_size(tables, offsets, id);
+    }
+    op.size()
+}
+
 // The same of the variable or the operand at a cell of the sheet.
 pub fn var_size_at(s: &[u8], k: usize) -> SizeResult
     requires { ⌜ k + 3 ≤ cells (now s) ⌝ }
@@ -216,6 +236,13 @@ pub fn source_at(tables: &[u8], offsets: &[u64], s: &[u8], k: usize) -> OperandR
     ensures { λ r. ⌜ operandSays r ≡ sourceOf (lent (now (tables .entry)) (now (offsets .entry))) (operandAt (now (s .entry)) k) ⌝ }
 {
     source(tables, offsets, operand_at(s, k))
+}
+
+pub fn own_size_at(tables: &[u8], offsets: &[u64], s: &[u8], k: usize) -> Size
+    requires { ⌜ k + 4 ≤ cells (now s) ⌝ }
+    ensures { λ r. ⌜ HasOwnSize (lent (now (tables .entry)) (now (offsets .entry))) (operandAt (now (s .entry)) k) r ⌝ }
+{
+    own_size(tables, offsets, operand_at(s, k))
 }
 
 fn is_string(src: Operand) -> bool
@@ -357,7 +384,7 @@ pub fn load_operand(
     match source(tables, offsets, op) {
         OperandResult::Is(src) => {
             if write {
-                put_load(out, at, reg, src, op.size());
+                put_load(out, at, reg, src, own_size(tables, offsets, op));
             }
             CountResult::Records(1)
         }

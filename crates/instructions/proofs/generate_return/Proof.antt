@@ -9,22 +9,22 @@ use Rattle.instructions.proofs.generate_return.Statement.{statement}
 use Rattle.instructions.proofs.generate_return.Tie as tie
 
 put-load-requires : tie.Need-put-load-requires
-put-load-requires c κs = let h = has-room (returnOf _ _) (return-looked _ _ _) (told operandSays (c .before .before .before .before .before .before .before .source-at .ensures) (c .before .before .before .before .before .src .given .1)) (c .before .before .before .before .before .before .before .before .before .before .before .before .pre .1) (c .before .before .before .if1 .taken) in omega arith
+put-load-requires c κs = let h = has-room (returnOf _ _ _) (return-looked _ _ _) (told operandSays (c .before .before .before .before .before .before .before .source-at .ensures) (c .before .before .before .before .before .src .given .1)) (c .before .before .before .before .before .before .before .before .before .before .before .before .pre .1) (c .before .before .before .if1 .taken) in omega arith
 
 add-func-epilogue : tie.Need-add-func-epilogue
-add-func-epilogue c = let h = has-room (returnOf _ _) (return-looked _ _ _) (told operandSays (c .before .before .before .before .before .before .before .before .before .before .before .source-at .ensures) (c .before .before .before .before .before .before .before .before .before .src .given .1)) (c .before .before .before .before .before .before .before .before .before .before .before .before .before .before .before .before .pre .1) (c .before .before .before .before .before .before .before .if1 .taken) in search needs
+add-func-epilogue c = let h = has-room (returnOf _ _ _) (return-looked _ _ _) (told operandSays (c .before .before .before .before .before .before .before .before .before .before .before .source-at .ensures) (c .before .before .before .before .before .before .before .before .before .src .given .1)) (c .before .before .before .before .before .before .before .before .before .before .before .before .before .before .before .before .pre .1) (c .before .before .before .before .before .before .before .if1 .taken) in search needs
 
 func-epilogue-requires : tie.Need-func-epilogue-requires
-func-epilogue-requires c κs = let h = has-room (returnOf _ _) (return-looked _ _ _) (told operandSays (c .before .before .before .before .before .before .before .before .before .before .before .source-at .ensures) (c .before .before .before .before .before .before .before .before .before .src .given .1)) (c .before .before .before .before .before .before .before .before .before .before .before .before .before .before .before .before .pre .1) (c .before .before .before .before .before .before .before .if1 .taken) in search needs
+func-epilogue-requires c κs = let h = has-room (returnOf _ _ _) (return-looked _ _ _) (told operandSays (c .before .before .before .before .before .before .before .before .before .before .before .source-at .ensures) (c .before .before .before .before .before .before .before .before .before .src .given .1)) (c .before .before .before .before .before .before .before .before .before .before .before .before .before .before .before .before .pre .1) (c .before .before .before .before .before .before .before .if1 .taken) in search needs
 
 returns : tie.Need-returns
-returns c = let h = has-room (returnOf _ _) (return-looked _ _ _) (told operandSays (c .before .before .before .before .before .before .before .before .before .before .before .before .before .before .source-at .ensures) (c .before .before .before .before .before .before .before .before .before .before .before .before .src .given .1)) (c .before .before .before .before .before .before .before .before .before .before .before .before .before .before .before .before .before .before .before .pre .1) (c .before .before .before .before .before .before .before .before .before .before .if1 .taken) in makes (returnOf _ _) (return-looked _ _ _) (told operandSays (c .before .before .before .before .before .before .before .before .before .before .before .before .before .before .source-at .ensures) (c .before .before .before .before .before .before .before .before .before .before .before .before .src .given .1)) (c .before .before .before .before .before .before .before .before .before .before .if1 .taken) (both _ _ _ _ _ _ _ (rw (c .before .before .before .before .before .before .before .before .return-register .ensures, c .before .before .before .before .before .before .before .operand-size .ensures) at (puts (first (c .before .before .before .before .before .before .put-load .ensures) done) (omega arith))) (c .before .before .func-epilogue .ensures) (omega arith) (omega arith))
+returns c = let h = has-room (returnOf _ _ _) (return-looked _ _ _) (told operandSays (c .before .before .before .before .before .before .before .before .before .before .before .before .before .before .source-at .ensures) (c .before .before .before .before .before .before .before .before .before .before .before .before .src .given .1)) (c .before .before .before .before .before .before .before .before .before .before .before .before .before .before .before .before .before .before .before .pre .1) (c .before .before .before .before .before .before .before .before .before .before .if1 .taken) in makes (returnOf _ _ _) (return-looked _ _ _) (told operandSays (c .before .before .before .before .before .before .before .before .before .before .before .before .before .before .source-at .ensures) (c .before .before .before .before .before .before .before .before .before .before .before .before .src .given .1)) (c .before .before .before .before .before .before .before .before .before .before .if1 .taken) (both _ _ _ _ _ _ _ (rw (c .before .before .before .before .before .before .before .before .return-register .ensures, c .before .before .before .before .before .before .before .own-size-at .ensures _ (told operandSays (c .before .before .before .before .before .before .before .before .before .before .before .before .before .before .source-at .ensures) (c .before .before .before .before .before .before .before .before .before .before .before .before .src .given .1))) at (puts (first (c .before .before .before .before .before .before .put-load .ensures) done) (omega arith))) (c .before .before .func-epilogue .ensures) (omega arith) (omega arith))
 
 returns-2 : tie.Need-returns-2
-returns-2 c = counts (returnOf _ _) (return-looked _ _ _) (told operandSays (c .before .before .before .before .source-at .ensures) (c .before .before .src .given .1)) (c .if1 .left)
+returns-2 c = counts (returnOf _ _ _) (return-looked _ _ _) (told operandSays (c .before .before .before .before .source-at .ensures) (c .before .before .src .given .1)) (c .if1 .left)
 
 returns-3 : tie.Need-returns-3
-returns-3 c = refuses (returnOf _ _) (return-looked _ _ _) (told operandSays (c .before .before .before .source-at .ensures) (c .before .n .given .1))
+returns-3 c = refuses (returnOf _ _ _) (return-looked _ _ _) (told operandSays (c .before .before .before .source-at .ensures) (c .before .n .given .1))
 
 pub generate-return-spec : {M : Type 1} → statement M
 generate-return-spec =

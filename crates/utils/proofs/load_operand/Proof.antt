@@ -14,7 +14,7 @@ put-load-requires c κs =
 returns : tie.Need-returns
 returns c =
     makes _ (load-looked _ _ _) (told operandSays (c .before .before .before .before .before .before .before .before .before .source .ensures) (c .before .before .before .before .before .before .before .src .given .1)) (c .before .before .before .before .before .if1 .taken)
-    (rw (c .before .before .before .size .ensures) at (puts (first (c .before .before .put-load .ensures) done) (has-room _ (load-looked _ _ _) (told operandSays (c .before .before .before .before .before .before .before .before .before .source .ensures) (c .before .before .before .before .before .before .before .src .given .1)) (c .before .before .before .before .before .before .before .before .before .before .before .before .before .pre) (c .before .before .before .before .before .if1 .taken))))
+    (rw (c .before .before .before .own-size .ensures _ (told operandSays (c .before .before .before .before .before .before .before .before .before .source .ensures) (c .before .before .before .before .before .before .before .src .given .1))) at (puts (first (c .before .before .put-load .ensures) done) (has-room _ (load-looked _ _ _) (told operandSays (c .before .before .before .before .before .before .before .before .before .source .ensures) (c .before .before .before .before .before .before .before .src .given .1)) (c .before .before .before .before .before .before .before .before .before .before .before .before .before .pre) (c .before .before .before .before .before .if1 .taken))))
 
 returns-2 : tie.Need-returns-2
 returns-2 c = counts _ (load-looked _ _ _) (told operandSays (c .before .before .before .before .source .ensures) (c .before .before .src .given .1)) (c .if1 .left)
