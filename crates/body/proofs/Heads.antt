@@ -110,7 +110,7 @@ module _ (s : List ℕ) {n : ℕ} {c : Cursor} (h : headCheck s ≡ Limited.Word
   pub head-total : lastOffset 0 (typesAt s (cellAt s 0) 6) ≤ 1048576
   head-total = types-total s (cellAt s 0) 0 (cursor 6) (head-right s h .0 .types) (lit≤ tt)
 
--- the head of a sheet whose layout is right
+-- The head of a sheet whose layout is right is right.
 pub head-laid : {s : List ℕ} → Laid s → headCheck s ≡ Limited.Word (cellAt s 5) (cursor (bodyFrom s))
 head-laid {s} r = go (headCheck s) refl (sym (sheet-head s) ∙ r .is)
   where

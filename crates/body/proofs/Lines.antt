@@ -19,7 +19,7 @@ abbrev kinds : List (List ℕ → ℕ → Instr)
 kinds = copyAt ∷ unaryAt ∷ binaryAt ∷ castAt ∷ zeroAt ∷ callAt ∷ labelAt ∷ jumpAt ∷ jumpIfNotAt ∷ returnAt ∷ []
 
 module _ (tables offsets s : List ℕ) (k labels : ℕ) (ret : IrType) where
-  -- kind n
+  -- These are the records of kind n.
   abbrev ofKind : ℕ → Result (List Instruction)
   ofKind n = generateInstr (lent tables offsets) labels ret (getD kinds n (λ s k. Instr.Comment) s k) (operandsAt s (argumentsAt s k) (k + 13))
 
@@ -27,7 +27,7 @@ module _ (tables offsets s : List ℕ) (k labels : ℕ) (ret : IrType) where
   unfolding instrAt
   by-kind e f = ap ofKind (sym e ∙ f)
 
-  -- no kind that has records
+  -- A kind without a maker has no record.
   pub no-record : {m : ℕ} → m ≡ cellAt s k → Instr.Comment ≡ getD kinds m (λ s k. Instr.Comment) s k → lineMade tables offsets s k labels ret ≡ ok []
   unfolding generateInstr
   no-record e f = by-kind e refl ∙ rw (← f) refl
@@ -39,7 +39,7 @@ module _ (s : List ℕ) (k : ℕ) (h : behind s k ≤ cells s) where
   thirteen = omega (arith, behind-least s k)
 
 module _ (s : List ℕ) (k : ℕ) {m : ℕ} (e : m ≡ cellAt s k) (f : m ≡ 5) where
-  -- a call's arguments
+  -- A call's arguments are as many as its cell says.
   pub arguments : argumentsAt s k ≡ cellAt s (k + 6)
   unfolding argumentsAt
   arguments = let z : cellAt s k ≡ 5 = sym e ∙ f in rw z

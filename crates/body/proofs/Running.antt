@@ -1,4 +1,4 @@
--- The loop over the body: what a survey says of the whole, the layout of what is left, and the records so far.
+-- The loop over the body keeps three things: what a survey says of the whole, the layout of what is left, and the records so far.
 use Prim.Native.Nat.{ℕ, zero, suc, _+_, _*_, _-_, _≤_, _<_}
 use mathlib.Core.Path.{_≡_, refl, sym, ap, _∙_}
 use mathlib.Core.Bool.{Bool, true, false, cond}
@@ -29,17 +29,17 @@ use Rattle.codegen.proofs.Results.{never}
 use Rattle.codegen.proofs.Shapes.{isReturn, Part, instr-part, ends-some, ends-same}
 use Rattle.utils.specs.declared.CountResult.{CountResult}
 use Rattle.utils.specs.Answers.{lent, counted}
-use Rattle.utils.specs.Makes.{after, Makes, Fits, Ready, before, then}
+use Rattle.utils.specs.Makes.{after, Makes, Fits, Ready, then}
 use Rattle.utils.proofs.Made.{Going, begins, next-ready, next, stops, finishes}
 use Rattle.body.specs.declared.Passed.{Passed}
 use Rattle.body.specs.declared.Surveyed.{Surveyed}
 use Rattle.body.specs.Head.{headCheck}
-use Rattle.body.specs.Body.{mostRecords, mostInBody, mostBefore, bodyOf, withoutPlace, passedOf, surveyOf}
+use Rattle.body.specs.Body.{mostRecords, mostInBody, bodyOf, withoutPlace, passedOf, surveyOf}
 use Rattle.body.proofs.Heads.{head-few, head-starts}
 
 -- ---- what a survey says of instructions behind others
 
--- of what is left, behind n records
+-- This is what it says of those that are left, behind n records, the last of them Ret or not.
 abbrev passedBehind : ℕ → Bool → Passed → Passed
 passedBehind n last (Passed.Made m ret) = Passed.Made (n + m) (cond (ltb 0 m) ret last)
 passedBehind n last (Passed.Refused m i) = Passed.Refused m i
@@ -59,7 +59,7 @@ behind-both n m last ret (Passed.Made (suc k) r) =
     rw (lt-ltb 0 (m + suc k) (omega arith), lt-ltb 0 (suc k) (omega arith), e)
 behind-both n m last ret (Passed.Refused k i) = refl
 
--- the first instruction makes records, or refuses
+-- The first instruction makes records, or it is refused.
 module _ (ctx : Context) (labels : ℕ) (ret : IrType) (i : ℕ) (line : Line) (lines : List Line) where
   one-more : (is : List Instruction) → generateInstruction ctx labels ret line ≡ ok is →
       passedOf (generateBody ctx labels ret i (line ∷ lines)) ≡ passedBehind (length is) (endsInRet is) (passedOf (generateBody ctx labels ret (suc i) lines))
@@ -78,7 +78,7 @@ module _ (ctx : Context) (labels : ℕ) (ret : IrType) (i : ℕ) (line : Line) (
   unfolding generateBody
   no-more n e = rw e
 
-  -- it is one maker, and the others follow
+  -- It is one maker, and the others follow it.
   in-turn : withoutPlace (generateBody ctx labels ret i (line ∷ lines)) ≡ then (generateInstruction ctx labels ret line) (withoutPlace (generateBody ctx labels ret (suc i) lines))
   unfolding generateBody
   in-turn = go (generateInstruction ctx labels ret line) (generateBody ctx labels ret (suc i) lines)
@@ -112,7 +112,7 @@ returns-at s k = go (cellAt s k)
 
 -- ---- an instruction and its answer
 
--- a number of records, and what it is the number of
+-- A number of records is the length of a list.
 counted-ok : (r : Result (List Instruction)) {n : ℕ} → ok n ≡ counted r → (is : List Instruction) × (r ≡ ok is) × (n ≡ length is)
 counted-ok (ok is) e = (is, refl, let z = e in cc)
 counted-ok (types.refused m) e = absurd (never (sym e))
@@ -121,7 +121,7 @@ counted-refused : (r : Result (List Instruction)) {n : ℕ} → types.refused n 
 counted-refused (ok is) e = absurd (never e)
 counted-refused (types.refused m) e = let z = e in cc
 
--- an instruction whose layout is right
+-- The layout of an instruction is right.
 module _ (s : List ℕ) (c : Cursor) {d : Cursor} (e : instrCheck s c ≡ Checked.Behind d) where
   pub right-there : c .at + 1 ≤ cells s
   right-there = omega (arith, instr-right s c e .body .there)
@@ -129,7 +129,7 @@ module _ (s : List ℕ) (c : Cursor) {d : Cursor} (e : instrCheck s c ≡ Checke
   pub right-behind : behind s (c .at) ≤ cells s
   right-behind = let b = instr-right s c e .body in omega (arith, b .ends, b .within)
 
-  -- a call has few arguments
+  -- A call has few arguments.
   pub right-few : argumentsAt s (c .at) ≤ 64
   unfolding argumentsAt
   right-few = go (eqb (cellAt s (c .at)) 5) (λ t. instr-right s c e .body .call (eqb-true _ _ t) .count)
@@ -138,7 +138,7 @@ module _ (s : List ℕ) (c : Cursor) {d : Cursor} (e : instrCheck s c ≡ Checke
       go true f = f refl
       go false f = omega arith
 
--- the instructions behind the first
+-- The first instruction is checked before the others.
 module _ (s : List ℕ) where
   instrs-behind : (n : ℕ) (c : Cursor) {d : Cursor} → 0 < n → instrCheck s c ≡ Checked.Behind d → instrsCheck s n c ≡ instrsCheck s (n - 1) d
   unfolding instrsCheck
@@ -161,8 +161,8 @@ module _ (s : List ℕ) where
 
 -- ---- the loop
 
--- `left` instructions from a cursor on are to come, the first of them number i, behind `made` records, the last of them Ret or not; `whole` is the body,
--- and `all` the layout of its instructions
+-- There are `left` instructions to come from a cursor on, the first of them number i, behind `made` records, the last of them Ret or not. `whole` is the
+-- body, and `all` is the layout of its instructions.
 pub record Walking (ctx : Context) (labels : ℕ) (ret : IrType) (s : List ℕ) (whole : Outcome (List Instruction)) (all : Checked) (writes : Bool) (place : ℕ) (old : List ℕ)
     (left : ℕ) (here : Cursor) (i made : ℕ) (last : Bool) (new : List ℕ) : Type 0 where
   pub few : made + mostRecords * left ≤ mostInBody
@@ -184,7 +184,7 @@ none-walked tables offsets s {from} h writes place old a b c =
       going = begins writes _ _ place old (rw (head-starts s h) refl);
     })
 
--- the layout that is checked before the pass that writes
+-- The layout of all instructions is right where that of the sheet is.
 pub laid-all : {s : List ℕ} {from : Cursor} → headCheck s ≡ Limited.Word (cellAt s 5) from → (r : Laid s) → instrsCheck s (cellAt s 5) from ≡ Checked.Behind (walk-from r .end)
 laid-all {s} {from} h r = let e : from ≡ cursor (bodyFrom s) = ap cursor (head-starts s h) in rw e (walk-from r .is)
 
@@ -207,7 +207,7 @@ module _ {ctx : Context} {labels : ℕ} {ret : IrType} {s : List ℕ} {whole : O
       left-in-turn : withoutPlace (generateBody ctx labels ret i (linesAt s left (here .at))) ≡ then line (withoutPlace (later d))
       left-in-turn = rw (left-is, add-one i) (in-turn ctx labels ret i (lineAt s (here .at)) (linesAt s (left - 1) (d .at)))
 
-      -- its records are few, and end as it says
+      -- Its records are few, and they end in Ret where it is a Return.
       module _ {n : ℕ} (is : List Instruction) (made-is : line ≡ ok is) (long : n ≡ length is) where
         part : Part mostRecords (isReturn (instrAt s (here .at))) is
         part = instr-part ctx labels ret (lineAt s (here .at) .instr) (lineAt s (here .at) .args) .of is made-is
@@ -251,7 +251,7 @@ module _ {ctx : Context} {labels : ℕ} {ret : IrType} {s : List ℕ} {whole : O
           pub walked-unwritten : newer ≡ cond writes (after (withoutPlace whole) place old) old
           walked-unwritten = stops (g .going) room line (withoutPlace (later d)) left-in-turn m .bytes
 
-    -- a wrong layout, which the pass that writes does not meet
+    -- The layout is wrong, which the pass that writes does not meet.
     module _ {n k : ℕ} (e : instrCheck s here ≡ Checked.Refused n k) where
       pub walked-wrong : Surveyed.Wrong n k ≡ surveyOf all (passedOf whole)
       walked-wrong = ap (λ (x : Checked). surveyOf x (passedOf whole)) (sym (instrs-wrong s left here h e) ∙ g .layout)
@@ -263,7 +263,7 @@ module _ {ctx : Context} {labels : ℕ} {ret : IrType} {s : List ℕ} {whole : O
           go true w = passed.never (sym e ∙ f w)
           go false w = rw w at (g .going .bytes)
 
-  -- no instruction is left
+  -- No instruction is left.
   module _ (h : left ≤ 0) where
     none-left : generateBody ctx labels ret i (linesAt s left (here .at)) ≡ accepted []
     unfolding generateBody linesAt

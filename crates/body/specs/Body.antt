@@ -17,7 +17,7 @@ use Rattle.body.specs.declared.Passed.{Passed}
 
 -- ---- how many records
 
--- an instruction makes at most so many, a body of the most instructions at most so many, and a function at most so many before its body
+-- An instruction makes at most `mostRecords`, a body of 4,096 instructions makes at most `mostInBody`, and there are at most `mostBefore` before a body.
 abbrev pub mostRecords : ℕ
 mostRecords = 17
 
@@ -29,32 +29,32 @@ mostBefore = 19
 
 -- ---- the records
 
--- the instruction at cell k, in a function of so many labels and a return type
+-- These are the records of the instruction at cell k, in a function of so many labels and a return type.
 abbrev pub lineMade : List ℕ → List ℕ → List ℕ → ℕ → ℕ → IrType → Result (List Instruction)
 lineMade tables offsets s k labels ret = generateInstruction (lent tables offsets) labels ret (lineAt s k)
 
--- the body, with the offsets that are lent
+-- These are the records of the body, with the offsets that are lent.
 unfoldable pub bodyOf : List ℕ → List ℕ → List ℕ → Outcome (List Instruction)
 bodyOf tables offsets s = generateBody (lent tables offsets) (cellAt s 2) (typeAt s 3) 1 (linesAt s (cellAt s 5) (bodyFrom s))
 
--- an outcome but for the place of its refusal
+-- This is an outcome without the place of its refusal.
 abbrev pub withoutPlace : {A : Type 0} → Outcome A → Result A
 withoutPlace (accepted a) = ok a
 withoutPlace (refused n place) = types.refused n
 
 -- ---- what a survey says
 
--- the number of the records and whether the last of them is Ret
+-- A survey says how many records there are, and whether the last of them is Ret.
 abbrev pub passedOf : Outcome (List Instruction) → Passed
 passedOf (accepted is) = Passed.Made (length is) (endsInRet is)
 passedOf (refused n i) = Passed.Refused n i
 
--- the layout comes first
+-- A wrong layout comes first.
 abbrev pub surveyOf : Checked → Passed → Surveyed
 surveyOf (Checked.Behind c) p = Surveyed.Laid p c
 surveyOf (Checked.Refused n k) p = Surveyed.Wrong n k
 
--- how many records it has counted
+-- It has counted so many records.
 abbrev pub madeBy : Passed → ℕ
 madeBy (Passed.Made n ret) = n
 madeBy (Passed.Refused n i) = 0

@@ -15,17 +15,17 @@ abbrev pub thenChecked : Checked → (Cursor → Limited) → Limited
 thenChecked (Checked.Behind c) rest = rest c
 thenChecked (Checked.Refused n k) rest = Limited.Refused n k
 
--- variable types and parameters
+-- The variable types and the parameters end the head.
 unfoldable pub listsHead : List ℕ → ℕ → ℕ → Cursor → Checked
 listsHead s vars params c = bindChecked (typesCheck s vars 0 c) (λ c1. varsCheck s params c1)
 
--- return type and instruction count before them
+-- The return type and the instruction count are before them.
 unfoldable pub restHead : List ℕ → ℕ → ℕ → Cursor → Limited
 restHead s vars params c =
     thenChecked (returnCheck s c) (λ c1.
     thenLimited (limited s c1 4096) (λ instrs c2. thenChecked (listsHead s vars params c2) (λ c3. Limited.Word instrs c3)))
 
--- variable count, parameter count and label count before these
+-- The variable count, the parameter count and the label count are before these.
 unfoldable pub headCheck : List ℕ → Limited
 headCheck s =
     thenLimited (limited s (cursor 0) 256) (λ vars c1.

@@ -1,4 +1,4 @@
-// Krc's codegen/generation.rs, `generate_instruction`: the records of one instruction of a sheet, counted or written.
+// This is `generate_instruction` of Krc's codegen/generation.rs. It counts or writes the records of one instruction of a sheet.
 use arithmetic::generate_binary;
 use arithmetic::generate_unary;
 use calls::generate_call;
@@ -21,7 +21,7 @@ ghost use Rattle.ir.specs.Function.{argumentsAt, behind};
 ghost use Rattle.utils.specs.Makes.{Makes, Ready};
 ghost use Rattle.body.specs.Body.{lineMade};
 
-// The instruction at cell `k`, in a function of so many labels and a return type.
+// The instruction starts at cell `k`, and its kind, which is in that cell, chooses the maker. Its function has so many labels and a return type.
 pub fn generate_instruction(
     tables: &[u8],
     offsets: &[u64],

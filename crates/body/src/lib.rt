@@ -1,4 +1,5 @@
-// The body: what its instructions come to, and their records one behind the other.
+// One loop over the body serves both passes. The first checks each instruction's layout and counts its records. The second writes them one behind the
+// other.
 mod instruction;
 
 use crate::instruction::generate_instruction;
@@ -24,19 +25,20 @@ ghost use Rattle.utils.specs.Makes.{after, Makes, Ready};
 ghost use Rattle.body.specs.Head.{headCheck};
 ghost use Rattle.body.specs.Body.{bodyOf, withoutPlace, passedOf, surveyOf, madeIn, mostInBody, mostBefore};
 
-// How many records the instructions make, and whether the last of them is Ret; or a refusal and the number of its instruction, from 1.
+// The instructions make so many records, and the last of them is Ret or not; or one of them, numbered from 1, is refused.
 pub enum Passed {
     Made(u64, bool),
     Refused(u64, u64),
 }
 
-// What the instructions of a sheet come to, and the cursor behind them; or the first wrong cell.
+// The layout of the instructions is right, and the cursor is behind them; or a cell is the first wrong one.
 pub enum Surveyed {
     Laid(Passed, Cursor),
     Wrong(u64, usize),
 }
 
-// Whether the last record is Ret, behind the `n` records of the instruction at cell `k`: those of a Return end in it, and without any the last is as before.
+// It says whether the last record is Ret, behind the `n` records of the instruction at cell `k`. Those of a Return end in Ret, and without any the last
+// record is the same as before.
 fn ends(sheet: &[u8], k: usize, n: u64, last: bool) -> bool
     requires { ⌜ k + 1 ≤ cells (now sheet) ⌝ }
     ensures { λ r. ⌜ r ≡ cond (ltb 0 n) (eqb (cellAt (now (sheet .entry)) k) 9) last ⌝ }
@@ -44,7 +46,7 @@ fn ends(sheet: &[u8], k: usize, n: u64, last: bool) -> bool
     if 0 < n { cell_at(sheet, k) == 9 } else { last }
 }
 
-// Instruction `i` is refused, and `left` follow it: their layout comes first.
+// Instruction `i` is refused. A wrong cell in the `left` instructions behind it comes first.
 fn rest_laid(sheet: &[u8], left: u64, next: Cursor, number: u64, i: u64) -> Surveyed
     ensures { λ r. ⌜ r ≡ surveyOf (instrsCheck (now (sheet .entry)) left next) (Passed.Refused number i) ⌝ }
     ensures { λ r. ⌜ madeIn r ≡ 0 ⌝ }
@@ -55,7 +57,7 @@ fn rest_laid(sheet: &[u8], left: u64, next: Cursor, number: u64, i: u64) -> Surv
     }
 }
 
-// Where the next instruction starts, or the first wrong cell of this one; the layout was checked before the pass that writes.
+// It gives the cursor of the next instruction, or the first wrong cell of this one. The pass that writes follows a survey, so it checks no layout.
 fn next_line(sheet: &[u8], here: Cursor, write: bool) -> Checked
     requires { ⌜ (write ≡ true → instrCheck (now sheet) here ≡ Checked.Behind (cursor (behind (now sheet) (here .at)))) ⌝ }
     ensures { λ r. ⌜ r ≡ instrCheck (now (sheet .entry)) here ⌝ }
@@ -68,7 +70,7 @@ fn next_line(sheet: &[u8], here: Cursor, write: bool) -> Checked
     next_instr(sheet, here)
 }
 
-// The instructions from a cursor on, the layout and the records of each: counted, or written behind the `first` ones.
+// It goes over the instructions from a cursor on. The records are counted, or they are written behind the `first` ones.
 fn walk_body(
     tables: &[u8],
     offsets: &[u64],
@@ -116,7 +118,7 @@ fn walk_body(
     Surveyed::Laid(Passed::Made(made, last), here)
 }
 
-// The layout of every instruction from a cursor on, and how many records they make.
+// It checks the layout of every instruction from a cursor on, and counts their records.
 pub fn survey_body(tables: &[u8], offsets: &[u64], sheet: &[u8], from: Cursor) -> Surveyed
     requires { ⌜ headCheck (now sheet) ≡ Limited.Word (cellAt (now sheet) 5) from ⌝ }
     ensures { λ r. ⌜ r ≡ surveyOf (instrsCheck (now (sheet .entry)) (cellAt (now (sheet .entry)) 5) from) (passedOf (bodyOf (now (tables .entry)) (now (offsets .entry)) (now (sheet .entry)))) ⌝ }
@@ -126,7 +128,7 @@ pub fn survey_body(tables: &[u8], offsets: &[u64], sheet: &[u8], from: Cursor) -
     walk_body(tables, offsets, sheet, from, 1, &mut none, false)
 }
 
-// The records of every instruction, which none of them refuses, behind the `first` ones, where there is room for them: how many they are.
+// It writes the records of every instruction behind the `first` ones, and gives their number. No instruction is refused, and there is room for the records.
 pub fn write_body(tables: &[u8], offsets: &[u64], sheet: &[u8], first: u64, out: &mut [u8]) -> u64
     requires { ⌜ Laid (now sheet) ⌝ }
     requires { ⌜ first ≤ mostBefore ⌝ }

@@ -20,10 +20,9 @@ use Rattle.codegen.specs.Frame.{registersOf, storeParams, funcPrologue}
 use Rattle.codegen.specs.Generation.{Outcome, accepted, refused, _>>=_, at, isRet, endsInRet, withEpilogue}
 use Rattle.codegen.proofs.Results.{Yields, yields, any, bind, choose, never}
 use Rattle.codegen.proofs.Shapes.{ends-last, ends-same}
-use Rattle.machine.proofs.Accepted as outcomes
 use Rattle.utils.specs.Answers.{lent, counted}
 use Rattle.utils.specs.declared.CountResult.{CountResult}
-use Rattle.utils.specs.Makes.{Makes, Fits, Ready, before, then}
+use Rattle.utils.specs.Makes.{Makes, Fits, Ready, then}
 use Rattle.utils.proofs.Made.{Going, begins, next-ready, next, finishes}
 use Rattle.frame.proofs.Prologue.{few-stores}
 use Rattle.body.specs.declared.Passed.{Passed}
@@ -127,19 +126,19 @@ module _ (first : Result ℕ) (bytes x : ℕ) (e : ok x ≡ first) where
 
 -- ---- what is written
 
--- whether the last record is Ret
+-- It is true where the last record is Ret.
 abbrev retOf : Result (List Instruction) → Bool
 retOf (ok ys) = endsInRet ys
 retOf (types.refused n) = true
 
--- the list is its three parts
+-- The list is made of its three parts in turn.
 in-turn : (p : Result (List Instruction)) (b : Outcome (List Instruction)) → Yields p Short →
     withoutPlace (joined p b) ≡ then p (then (withoutPlace b) (ok (ending (retOf (withoutPlace b)))))
 in-turn (ok xs) (accepted ys) h = ap ok (joined-is xs ys (h .of xs refl .ends) ∙ append-assoc xs ys (ending (endsInRet ys)))
 in-turn (ok xs) (refused n i) h = refl
 in-turn (types.refused n) b h = refl
 
--- a maker that has room does not refuse
+-- A maker that has room does not refuse.
 room-made : {r : Result (List Instruction)} {at m n : ℕ} {A : Type 0} → Ready true r at m → types.refused n ≡ counted r → A
 room-made {r} {at} {m} {n} {A} y e = go r (y .room refl) e
   where
@@ -147,7 +146,7 @@ room-made {r} {at} {m} {n} {A} y e = go r (y .room refl) e
     go (ok is) f e = absurd (never e)
     go (types.refused k) f e = absurd f
 
--- the parts of a sheet's list, of which n variables and m parameters were read
+-- These are the parts of the list of a sheet that has n variables and m parameters.
 module _ (tables offsets : List ℕ) (bytes : ℕ) (s : List ℕ) (n m : ℕ) where
   abbrev whole : Result (List Instruction)
   whole = withoutPlace (listOf tables offsets bytes s)
@@ -186,7 +185,7 @@ module _ (tables offsets : List ℕ) (bytes : ℕ) (s : List ℕ) (n m : ℕ) wh
         behind-body = next behind-first room body (ok last) refl (omega arith) wrote
 
         module _ {needed : ℕ} (many : ok needed ≡ counted whole) where
-          -- what is left of the needed records is the epilogue, or nothing
+          -- What is left of the needed records is the epilogue, or nothing.
           left-is : needed ≡ x + y + length last
           left-is = let z : _≡_ {A = Result ℕ} (ok needed) (ok (length (behind-body .made ++ last))) = many ∙ ap counted (behind-body .is) in
               let l : needed ≡ length (behind-body .made ++ last) = cc in
@@ -195,7 +194,7 @@ module _ (tables offsets : List ℕ) (bytes : ℕ) (s : List ℕ) (n m : ℕ) wh
           pub made-few : x + y ≤ needed
           made-few = omega (arith, left-is)
 
-          -- none is left
+          -- None is left.
           pub all-written : needed ≤ x + y → Makes true whole 0 old late (CountResult.Records needed)
           all-written h =
               let l : needed ≡ x + y = omega (arith, made-few) in
@@ -213,7 +212,7 @@ module _ (tables offsets : List ℕ) (bytes : ℕ) (s : List ℕ) (n m : ℕ) wh
                 go true k = absurd (omega arith)
                 go false k = refl
 
-            -- there is room for the epilogue
+            -- There is room for the epilogue.
             pub last-ready : Ready true (ok funcEpilogue) (64 * (x + y)) (length late)
             last-ready = next-ready behind-body room (ok funcEpilogue) (ok []) (ap ok last-due) (omega arith)
 

@@ -138,12 +138,12 @@ module _ (tables s : List ℕ) where
         go (accepted m) f = (f ∙ ap countedOutcome (sym all), record { laid = record { end = w; is = q }; list = all })
         go (refused m place) f = (f ∙ ap countedOutcome (sym all), tt)
 
-    -- the survey of its instructions
+    -- The survey of its instructions says one of three things.
     module _ {r : Surveyed} (e : r ≡ surveyOf (instrsCheck s (cellAt s 5) c) (passedOf (bodyOf tables offsets s))) where
       checked-next : {x : Checked} → instrsCheck s (cellAt s 5) c ≡ x → sheetCheck s ≡ bindChecked x (λ end. endCheck 2 s end)
       checked-next f = rest-checked (o .head) ∙ ap (λ (x : Checked). bindChecked x (λ end. endCheck 2 s end)) f
 
-      -- a wrong cell in an instruction
+      -- A cell in an instruction is wrong.
       pub instrs-say : {n k : ℕ} → r ≡ Surveyed.Wrong n k → Says (Counted.Refused n k) offsets
       instrs-say f = (ap countedOutcome (sym (laid-next (checked-next (survey-wrong _ (passedOf (bodyOf tables offsets s)) (sym f ∙ e))))), tt)
 
@@ -151,11 +151,11 @@ module _ (tables s : List ℕ) where
         laid : (instrsCheck s (cellAt s 5) c ≡ Checked.Behind d) × (p ≡ passedOf (bodyOf tables offsets s))
         laid = survey-laid (instrsCheck s (cellAt s 5) c) (passedOf (bodyOf tables offsets s)) (sym f ∙ e)
 
-        -- .. or behind the last
+        -- Something is left behind the last one.
         pub end-says : {x : Checked} {n k : ℕ} → x ≡ endCheck 2 s d → x ≡ Checked.Refused n k → Says (Counted.Refused n k) offsets
         end-says g h = (ap countedOutcome (sym (laid-next (checked-next (laid .0) ∙ sym g ∙ h))), tt)
 
-        -- none
+        -- The layout is right.
         pub survey-says : {x : Checked} {w : Cursor} {q : Counted} → x ≡ endCheck 2 s d → x ≡ Checked.Behind w → q ≡ sizedThen total (λ bytes. countedList (prologue bytes) p) → Says q offsets
         survey-says g h k = rw (k, laid .1) (sized-says (checked-next (laid .0) ∙ sym g ∙ h) total (o .sizes))
 
@@ -215,12 +215,12 @@ paged-made (refused m k) old new e h = absurd (never (sym (e .says)))
 
 -- ---- the list that is written
 
--- so many records
+-- A list of n records has its number without its place too.
 pub so-many : (q : Outcome (List Instruction)) {n : ℕ} → accepted n ≡ countedOutcome q → ok n ≡ counted (withoutPlace q)
 so-many (accepted is) e = let z : _≡_ {A = Outcome ℕ} (accepted _) (accepted (length is)) = e in cc
 so-many (refused m k) e = absurd (outcomes.never (sym e))
 
--- .. have room
+-- The list is ready to be written where there is room for so many.
 pub list-ready : (q : Outcome (List Instruction)) {n m : ℕ} → accepted n ≡ countedOutcome q → n ≤ m / 64 → Ready true (withoutPlace q) 0 m
 list-ready (accepted is) {n} e h =
     let l : n ≡ length is = let z = e in cc in

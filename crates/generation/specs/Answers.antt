@@ -1,4 +1,5 @@
--- Believed: the contracts of `count` and `generate` are said with it. What the public answers say (01, "The turned-away slip"): a number of records, or a refusal with its place.
+-- Believed: the contracts of `count` and `generate` are said with it. A public answer says a number of records, or a refusal with its place (01, "The
+-- turned-away slip").
 use Prim.Native.Nat.{ℕ}
 use mathlib.Core.List.{List}
 use lib.ListN.{length}
@@ -10,7 +11,7 @@ abbrev pub answerSays : Answer → Outcome ℕ
 answerSays (Answer.Accepted n) = accepted n
 answerSays (Answer.Refused n place) = refused n place
 
--- the number of records of a list
+-- This is the number of records of a list.
 abbrev pub countedOutcome : Outcome (List Instruction) → Outcome ℕ
 countedOutcome (accepted is) = accepted (length is)
 countedOutcome (refused n place) = refused n place

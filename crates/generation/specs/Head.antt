@@ -10,12 +10,12 @@ use Rattle.layout.specs.declared.Limited.{Limited}
 use Rattle.codegen.specs.Frame.{offsetsFrom}
 use Rattle.frame.specs.declared.Typed.{Typed}
 
--- the total of the variables' sizes beside it
+-- The total of the variables' sizes stands beside it.
 abbrev pub headed : Limited → Number → Typed
 headed (Limited.Word n c) total = Typed.Sized total c
 headed (Limited.Refused n k) total = Typed.Wrong n k
 
--- the offsets of so many variables from cell k on, if no cell is wrong
+-- If no cell is wrong, the offsets are those of so many variables from cell k on.
 abbrev pub Lies : Limited → List ℕ → ℕ → ℕ → List ℕ → Type 0
 Lies (Limited.Word n c) s vars k offsets = take vars offsets ≡ offsetsFrom 0 (typesAt s vars k)
 Lies (Limited.Refused n j) s vars k offsets = Unit {0}

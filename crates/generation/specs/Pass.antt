@@ -11,14 +11,14 @@ use Rattle.codegen.specs.Generation.{Outcome, accepted, _>>=_, at, withEpilogue
 use Rattle.utils.specs.Answers.{lent}
 use Rattle.body.specs.Body.{bodyOf}
 
--- prologue, body, and the epilogue unless the last record is Ret
+-- It is the prologue, the body, and the epilogue unless the last record is Ret.
 unfoldable pub listOf : List ℕ → List ℕ → ℕ → List ℕ → Outcome (List Instruction)
 listOf tables offsets bytes s = do
   prologue ← at 0 (funcPrologue (lent tables offsets) bytes (varsAt s (cellAt s 1) (paramsFrom s)))
   body ← bodyOf tables offsets s
   accepted (withEpilogue (prologue ++ body))
 
--- the epilogue, unless the last record is Ret
+-- This is the epilogue, which is left out where the last record is Ret.
 abbrev pub ending : Bool → List Instruction
 ending true = []
 ending false = funcEpilogue

@@ -25,12 +25,12 @@ use Rattle.generation.specs.Pass.{ending, listOf}
 
 -- ---- the list
 
--- prologue, body, and the epilogue unless the last record is Ret
+-- The prologue, the body, and the epilogue unless the last record is Ret are counted.
 abbrev pub countedList : Result (List Instruction) → Passed → Outcome ℕ
 countedList prologue (Passed.Made rest ret) = at 0 (counted prologue) >>= λ first. accepted (first + rest + length (ending ret))
 countedList prologue (Passed.Refused n place) = at 0 (counted prologue) >>= λ first. refused n place
 
--- the frame of a total: the least multiple of 16 that is not below it
+-- The frame of a total is the least multiple of 16 that is not below it.
 abbrev pub rounded : ℕ → ℕ
 rounded total = (total + 15) / 16 * 16
 
@@ -38,14 +38,14 @@ abbrev pub framed : ℕ → Outcome ℕ → Counted
 framed bytes (accepted n) = Counted.Frame bytes n
 framed bytes (refused n place) = Counted.Refused n place
 
--- what follows the total of the variables' sizes
+-- The list follows the total of the variables' sizes.
 abbrev pub sizedThen : Number → (ℕ → Outcome ℕ) → Counted
 sizedThen (Number.Is total) rest = framed (rounded total) (rest (rounded total))
 sizedThen (Number.Refused n) rest = Counted.Refused n 0
 
 -- ---- the whole
 
--- the tables are right, and so is the sheet before its instructions; the offsets and the total size of its variables
+-- The tables are right, and so is the sheet before its instructions. The offsets and the total are those of its variables.
 pub record Opens (tables s offsets : List ℕ) (total : Number) (from : Cursor) : Type 0 where
   pub first : accepts (tablesCheck tables) ≡ true
   pub head : headCheck s ≡ Limited.Word (cellAt s 5) from
@@ -60,7 +60,7 @@ abbrev pub countedSays : Counted → Outcome ℕ
 countedSays (Counted.Frame bytes n) = accepted n
 countedSays (Counted.Refused n place) = refused n place
 
--- the sheet, the offsets and the frame that the list is written from
+-- The list is written from a sheet whose layout is right, the offsets and the frame.
 pub record Lends (tables s offsets : List ℕ) (bytes : ℕ) : Type 0 where
   pub laid : Laid s
   pub list : compiled tables s ≡ listOf tables offsets bytes s

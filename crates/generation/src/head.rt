@@ -1,4 +1,4 @@
-// The sheet before its instructions: its layout, and the offsets of its variables.
+// The sheet before its instructions is checked here, and the offsets of its variables are computed.
 use cells::Cursor;
 use frame::Typed;
 use frame::var_offsets;
@@ -19,7 +19,7 @@ ghost use Rattle.frame.specs.Sizes.{sizesAt, typedOf};
 ghost use Rattle.body.specs.Head.{listsHead, restHead, headCheck};
 ghost use Rattle.generation.specs.Head.{headed, Lies};
 
-// The types of so many variables, and so many parameters.
+// It checks the types of so many variables, and so many parameters behind them.
 fn lists_head(s: &[u8], vars: u64, params: u64, c: Cursor, offsets: &mut [u64; 256]) -> Typed
     requires { ⌜ vars ≤ 256 ⌝ }
     requires { ⌜ length (now offsets) ≡ 256 ⌝ }
@@ -36,7 +36,7 @@ fn lists_head(s: &[u8], vars: u64, params: u64, c: Cursor, offsets: &mut [u64; 2
     }
 }
 
-// The return type and the number of instructions before them.
+// It checks the return type and the number of instructions before them.
 fn rest_head(s: &[u8], vars: u64, params: u64, c: Cursor, offsets: &mut [u64; 256]) -> Typed
     requires { ⌜ vars ≤ 256 ⌝ }
     requires { ⌜ length (now offsets) ≡ 256 ⌝ }
@@ -54,7 +54,7 @@ fn rest_head(s: &[u8], vars: u64, params: u64, c: Cursor, offsets: &mut [u64; 25
     }
 }
 
-// The numbers of variables, parameters and labels before these: the total of the variables' sizes and the cursor of the first instruction.
+// It checks the numbers of variables, parameters and labels before these. It gives the total of the variables' sizes and the cursor of the first instruction.
 pub fn head_check(s: &[u8], offsets: &mut [u64; 256]) -> Typed
     requires { ⌜ length (now offsets) ≡ 256 ⌝ }
     ensures { λ r. ⌜ r ≡ headed (headCheck (now (s .entry))) (sizesAt (now (s .entry)) (cellAt (now (s .entry)) 0) 6) ⌝ }

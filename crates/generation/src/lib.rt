@@ -1,4 +1,4 @@
-// Krc's codegen/generation.rs: the list of a function's records, or the first refusal with its place.
+// This is Krc's codegen/generation.rs. It gives the list of a function's records, or the first refusal with its place.
 mod head;
 mod pass;
 
@@ -20,13 +20,13 @@ ghost use Rattle.machine.specs.Simulation.{Demand3};
 ghost use Rattle.generation.specs.Answers.{answerSays, countedOutcome};
 ghost use Rattle.generation.specs.Survey.{Opens};
 
-// The number of records, or the number of a refusal and its place.
+// It has the number of records, or the number of a refusal and its place.
 pub enum Answer {
     Accepted(u64),
     Refused(u64, u64),
 }
 
-// The records that a sheet needs; refusals 1 to 8.
+// It counts the records that a sheet needs. The refusals are 1 to 8.
 pub fn count(tables: &[u8], sheet: &[u8]) -> Answer
     ensures { λ r. ⌜ answerSays r ≡ countedOutcome (compiled (now (tables .entry)) (now (sheet .entry))) ⌝ }
 {
@@ -43,7 +43,7 @@ pub fn count(tables: &[u8], sheet: &[u8]) -> Answer
     }
 }
 
-// A pass that only counts, then one that writes; refusal 9 with the records needed where the slice has no room for them.
+// A pass that only counts comes first, then one that writes. Where the slice has no room for the records needed, refusal 9 has their number.
 fn lower(
     tables: &[u8],
     offsets: &[u64],
@@ -68,7 +68,7 @@ fn lower(
     }
 }
 
-// The lowering: the records at the start of `out`, whose bytes are as before behind them, and all as before where it refuses.
+// The lowering writes the records at the start of `out` and leaves the bytes behind them as before. Where it refuses, it leaves all of them.
 pub fn generate(tables: &[u8], sheet: &[u8], out: &mut [u8]) -> Answer
     ensures { λ r. ⌜ answerSays r ≡ countedOutcome (lowered (now (tables .entry)) (now (sheet .entry)) (length (now (out .entry)))) ⌝ }
     ensures { λ r. ⌜ now (out .exit) ≡ recordsAfter (lowered (now (tables .entry)) (now (sheet .entry)) (length (now (out .entry)))) (now (out .entry)) ⌝ }

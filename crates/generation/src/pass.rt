@@ -1,4 +1,4 @@
-// The two passes over a sheet: the first surveys it, the second writes its list.
+// There are two passes over a sheet. The first surveys it, and the second writes its list.
 use crate::head::head_check;
 use body::Passed;
 use body::Surveyed;
@@ -34,19 +34,19 @@ ghost use Rattle.generation.specs.Answers.{countedOutcome};
 ghost use Rattle.generation.specs.Pass.{listOf, ending};
 ghost use Rattle.generation.specs.Survey.{Opens, OpensIf, LendsIf, countedList, sizedThen, countedSays};
 
-// The total of the variables' sizes and the cursor of the first instruction, or a refusal with its place.
+// It has the total of the variables' sizes and the cursor of the first instruction, or a refusal with its place.
 pub enum Opened {
     Sheet(Number, Cursor),
     Refused(u64, u64),
 }
 
-// The bytes of the frame and the number of records, or a refusal with its place.
+// It has the bytes of the frame and the number of records, or a refusal with its place.
 pub enum Counted {
     Frame(u64, u64),
     Refused(u64, u64),
 }
 
-// How many records the epilogue is: none behind a Ret.
+// The epilogue is three records, and behind a Ret it is left out.
 fn ending(ret: bool) -> u64
     ensures { λ r. ⌜ r ≡ length (ending ret) ⌝ }
     ensures { λ r. ⌜ r ≤ 3 ⌝ }
@@ -54,7 +54,7 @@ fn ending(ret: bool) -> u64
     if ret { 0 } else { 3 }
 }
 
-// The records of the function, of the total of its variables' sizes and of its body, or the first refusal.
+// It counts the records of the function from the total of its variables' sizes and from what its body came to, or it gives the first refusal.
 fn count_list(
     tables: &[u8],
     offsets: &[u64],
@@ -93,7 +93,7 @@ fn count_list(
     }
 }
 
-// The layout of the tables, and of the sheet before its instructions, with the offsets of its variables.
+// It checks the layout of the tables and of the sheet before its instructions, and computes the offsets of the variables.
 pub fn open_sheet(tables: &[u8], sheet: &[u8], offsets: &mut [u64; 256]) -> Opened
     requires { ⌜ length (now offsets) ≡ 256 ⌝ }
     ensures { λ r. ⌜ OpensIf r (now (tables .entry)) (now (sheet .entry)) (now (offsets .exit)) ⌝ }
@@ -108,7 +108,7 @@ pub fn open_sheet(tables: &[u8], sheet: &[u8], offsets: &mut [u64; 256]) -> Open
     }
 }
 
-// The layout of its instructions, nothing behind them, and the number of records.
+// It checks the layout of the instructions, and that nothing is behind them, and counts the records.
 pub fn survey(tables: &[u8], offsets: &[u64], sheet: &[u8], total: Number, from: Cursor) -> Counted
     requires { ⌜ Opens (now tables) (now sheet) (now offsets) total from ⌝ }
     ensures { λ r. ⌜ countedSays r ≡ countedOutcome (compiled (now (tables .entry)) (now (sheet .entry))) ⌝ }
@@ -123,7 +123,7 @@ pub fn survey(tables: &[u8], offsets: &[u64], sheet: &[u8], total: Number, from:
     }
 }
 
-// The list of `needed` records at the start of `out`, which has room for them.
+// It writes the list of `needed` records at the start of `out`, which has room for them.
 pub fn write_list(
     tables: &[u8],
     offsets: &[u64],

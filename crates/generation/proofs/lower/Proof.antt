@@ -1,6 +1,5 @@
 use mathlib.Core.Path.{refl, sym, ap, _∙_}
 use Rattle.codegen.specs.Generation.{compiled}
-use Rattle.generation.specs.Answers.{countedOutcome}
 use Rattle.generation.specs.Survey.{countedSays}
 use Rattle.generation.proofs.Lowering.{paged-refused, paged-full, paged-made, list-ready, so-many, left-lowered}
 use borrow.Author.Needs.{needs}
