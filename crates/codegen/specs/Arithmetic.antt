@@ -1,4 +1,4 @@
--- Krc's codegen/arithmetic.rs, in the Rust's order of evaluation.
+-- Believed: Krc's codegen/arithmetic.rs, in the Rust's order of evaluation.
 use Prim.Native.Nat.{ℕ, _+_, _-_, _^_}
 use mathlib.Core.List.{List, [], _∷_, _++_}
 use mathlib.Core.Bool.{Bool, true, false, cond, _||_, _&&_}

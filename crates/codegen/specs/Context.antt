@@ -1,4 +1,4 @@
--- What operands are looked up in: Krc's `Context` (codegen/generation.rs), but for the number of labels and the return type, which stand beside it.
+-- Believed: what operands are looked up in: Krc's `Context` (codegen/generation.rs), but for the number of labels and the return type, which stand beside it.
 use Prim.Native.Nat.{ℕ}
 use mathlib.Core.List.{List}
 use mathlib.Core.Bool.{Bool, cond}

@@ -1,4 +1,4 @@
--- Offsets, frame and prologue (Krc's codegen/generation.rs: `var_offsets`, `func_prologue`).
+-- Believed: offsets, frame and prologue (Krc's codegen/generation.rs: `var_offsets`, `func_prologue`).
 use Prim.Native.Nat.{ℕ, suc, _+_, _*_, _/_}
 use mathlib.Core.List.{List, [], _∷_, _++_}
 use mathlib.Core.Bool.{Bool, true, false, cond, _&&_, not, Bool·beq}

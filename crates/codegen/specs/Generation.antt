@@ -1,4 +1,4 @@
--- Krc's codegen/generation.rs: the list that `generate` holds for one function before `add_function`, or the first panic with its place.
+-- Believed: Krc's codegen/generation.rs: the list that `generate` holds for one function before `add_function`, or the first panic with its place.
 use Prim.Native.Nat.{ℕ, suc, _+_, _*_}
 use mathlib.Core.List.{List, [], _∷_, _++_}
 use mathlib.Core.Bool.{Bool, true, false, cond}

@@ -1,4 +1,4 @@
--- Krc's codegen/instructions.rs, in the Rust's order of evaluation.
+-- Believed: Krc's codegen/instructions.rs, in the Rust's order of evaluation.
 use Prim.Native.Nat.{ℕ, suc, _+_}
 use mathlib.Core.List.{List, [], _∷_, _++_}
 use mathlib.Core.Bool.{Bool, true, false, cond, not, _&&_, _||_, Bool·beq}

@@ -1,4 +1,4 @@
--- Krc's codegen/utils.rs, with `convert_operand` of instructions.rs, in the Rust's order of evaluation.
+-- Believed: Krc's codegen/utils.rs, with `convert_operand` of instructions.rs, in the Rust's order of evaluation.
 use Prim.Native.Nat.{ℕ}
 use mathlib.Core.Bool.{Bool, true, false, cond}
 use lib.Dec.{eqb}

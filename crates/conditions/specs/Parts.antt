@@ -1,4 +1,5 @@
--- Parts of the plain test that one function of it decides (01, "Plain integer functions").
+-- Auxiliary: parts of the plain test that one function of it decides (01, "Plain integer functions"); machine's `isPlainHead` and `isPlainInstr` are made of
+-- them, by proofs/Headed and proofs/Tests.
 use Prim.Native.Nat.{ℕ, suc, _+_, _<_, _≤_}
 use mathlib.Core.Path.{_≡_}
 use mathlib.Core.Bool.{Bool, true, false, cond, not, _&&_, _||_}

@@ -1,4 +1,4 @@
--- What the cells of tables and sheet mean, where their layout is right (01, "Sheet and tables"; Krc's converter/ir/structs.rs).
+-- Believed: what the cells of tables and sheet mean, where their layout is right (01, "Sheet and tables"; Krc's converter/ir/structs.rs).
 use Prim.Native.Nat.{ℕ, zero, suc, _+_, _*_, _-_}
 use mathlib.Core.List.{List, [], _∷_}
 use mathlib.Core.Bool.{Bool, cond}

@@ -1,4 +1,4 @@
--- Krc's `Type` and its answers (parser/postparser/structs.rs), Krc's `Operand::size` (converter/ir/structs.rs), and 01's type codes.
+-- Believed: Krc's `Type` and its answers (parser/postparser/structs.rs), Krc's `Operand::size` (converter/ir/structs.rs), and 01's type codes.
 use Prim.Native.Nat.{ℕ, _+_, _*_, _^_, _-_, min}
 use mathlib.Core.List.{List, [], _∷_}
 use mathlib.Core.Bool.{Bool, cond, not, _&&_, _||_}
