@@ -49,7 +49,7 @@ $(BUILD)/gilthoren-intel: tools/gilthoren-intel.c tools/intel.c tools/refusals.c
 $(BUILD)/listing: examples/listing.c $(LIBRARY)
 	$(COMPILE) $(LDFLAGS) -o $@ $(filter %.c %.a,$^)
 
-$(BUILD)/lower: examples/lower.c tools/refusals.c $(SHEET) $(HEADERS) $(LIBRARY)
+$(BUILD)/lower: examples/lower.c tools/refusals.c tools/plain_words.c $(SHEET) $(HEADERS) $(LIBRARY)
 	$(COMPILE) $(LDFLAGS) -o $@ $(filter %.c %.a,$^)
 
 install: $(LIBRARY) $(TOOLS)

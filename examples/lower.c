@@ -3,9 +3,11 @@
  * usage: lower SHEET
  *
  * Standard output has the listing, as the listing program writes it; standard error says in words what a refusal means and where its place
- * is, and what the plain test says. Status 0 when the sheet is accepted, 1 when it is refused, 2 when it is not lowered at all. */
+ * is, and what the plain test says: yes, or the first fault and the condition that it breaks. Status 0 when the sheet is accepted, 1 when it
+ * is refused, 2 when it is not lowered at all. */
 #include <inttypes.h>
 
+#include "../tools/plain_words.h"
 #include "../tools/refusals.h"
 #include "gilthoren.h"
 
@@ -44,17 +46,21 @@ static void explain_refusal(const struct sheet_text *sheet, const struct answer 
     bytes_clear(&where);
 }
 
-static void explain_plain(const struct sheet_text *sheet, const struct sheet_parts *in) {
+/* The first fault, and the condition that it breaks; with none, the lowering's refusal is the fault. */
+static void explain_fault(const struct sheet_text *sheet, const struct sheet_parts *in, uint64_t fault) {
+    struct bytes where = {0};
+    const char *words = plain_words(in->sheet, fault);
+    instruction_place(sheet, fault, &where);
+    fprintf(stderr, "plain: no, %s (%.*s)\n", words ? words : "the lowering refuses it", (int)where.count, (char *)where.at);
+    bytes_clear(&where);
+}
+
+static void explain_plain(const struct sheet_text *sheet, const struct sheet_parts *in, uint64_t refusal) {
     uint64_t fault = 0;
-    if (gilthoren_plain(in->tables, in->tables_bytes, in->sheet, in->sheet_bytes, &fault)) {
+    if (gilthoren_plain(in->tables, in->tables_bytes, in->sheet, in->sheet_bytes, &fault))
         fprintf(stderr, "plain: yes, the records do what the sheet says, step by step\n");
-    } else if (fault == 0) {
-        fprintf(stderr, "plain: no, for its variables, parameters or return type, or it is not readable\n");
-    } else {
-        fprintf(stderr, "plain: no, for instruction %" PRIu64, fault);
-        if (fault <= sheet->instruction_lines.count) fprintf(stderr, ", line %zu", sheet->instruction_lines.at[fault - 1]);
-        fprintf(stderr, "\n");
-    }
+    else if (refusal >= GILTHOREN_BAD_TABLE && refusal <= GILTHOREN_OVERSIZE) fprintf(stderr, "plain: no, it is not readable\n");
+    else explain_fault(sheet, in, fault);
 }
 
 static int lower_sheet(const struct sheet_text *sheet) {
@@ -65,7 +71,7 @@ static int lower_sheet(const struct sheet_text *sheet) {
     print_listing(&answer);
     fflush(stdout);
     explain_refusal(sheet, &answer);
-    if (is_split) explain_plain(sheet, &in);
+    if (is_split) explain_plain(sheet, &in, answer.number);
     bytes_clear(&answer.records);
     return answer.number == GILTHOREN_ACCEPTED ? 0 : 1;
 }

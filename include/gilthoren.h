@@ -49,9 +49,10 @@ enum { GILTHOREN_RECORD_BYTES = 64 };
 uint64_t gilthoren_lower(const uint8_t *tables, size_t tables_bytes, const uint8_t *sheet, size_t sheet_bytes,
                          uint8_t *records, size_t records_bytes, uint64_t *place);
 
-/* The plain test: 1 if the function is a plain integer function, and `place` holds 0; else 0, and `place` holds a number at fault, 0
- * for variables, parameters, the return type or refusals 1 to 3, else an instruction's number from 1. Which of several numbers at
- * fault it is, is left open. */
+/* The plain test: 1 if the function is a plain integer function, and `place` holds 0; else 0, and `place` holds the first number at
+ * fault: 0 for variables, parameters, the return type, refusals 1 to 3 and a refusal before the body; else the number, from 1, of the
+ * first instruction that breaks a condition or that the lowering refuses. Of a label placed twice the second place is at fault and
+ * every later one, and of a jump to a label that stands nowhere the jump. */
 uint64_t gilthoren_plain(const uint8_t *tables, size_t tables_bytes, const uint8_t *sheet, size_t sheet_bytes, uint64_t *place);
 
 #ifdef __cplusplus

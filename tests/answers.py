@@ -6,6 +6,7 @@ HEADER = """use Prim.Native.Nat.{ℕ, suc}
 use mathlib.Core.Path.{_≡_, refl}
 use mathlib.Core.Bool.{Bool, true, false}
 use mathlib.Core.List.{List, [], _∷_, _++_, map}
+use mathlib.Core.Option.{Option, none, some}
 use lib.ListN.{length}
 use Rattle.x86.specs.declared.enums.Instruction.{Instruction}
 use Rattle.x86.specs.Records.{Record}
@@ -28,7 +29,7 @@ shown (refused n p) = n ∷ p ∷ []
 
 
 def equations(case, line):
-    """What the lowering answers, and which numbers the plain test finds at fault."""
+    """What the lowering answers, which numbers are at fault, and which of them the plain test names."""
     args = f"({numbers(case.tables)}) ({numbers(case.sheet)})"
     cells = [c for r in case.records for c in r]
     yield f"answer{case.index} : _≡_ {{A = List ℕ}} (shown (lowered {args} {case.out_len})) ({numbers([case.number, case.place] + cells)})"
@@ -39,20 +40,24 @@ def equations(case, line):
     yield f"faults{case.index} : _≡_ {{A = List Bool}} (map (isFault {args}) ({numbers(asked)})) ({flags})"
     yield line
     yield f"faults{case.index} = refl\n"
+    first = f"some {case.faults[0]}" if case.faults else "none"
+    yield f"first{case.index} : _≡_ {{A = Option ℕ}} (firstFault {args}) ({first})"
+    yield line
+    yield f"first{case.index} = refl\n"
 
 
 def asked_faults(case):
-    """Every number where the list has all faults; of a sheet that is refused 4 to 8 only those in the list."""
-    if case.number in (4, 5, 6, 7, 8):
-        return case.faults[:4]
+    """0, the first instructions, and a number behind the last of a short body; of a sheet that is refused 4 to 8 none behind the refusal's place."""
     if case.number in (1, 2, 3):
         return [0, 1]
     instructions = int.from_bytes(case.sheet[40:48], "little")
-    return list(range(min(instructions, 6) + 2))
+    last = case.place if case.number in (4, 5, 6, 7, 8) else instructions + 1
+    return list(range(min(last, 7) + 1))
 
 
 def choose(cases, count, most):
-    """The first and last of each refusal, or its two smallest where all are larger than `most`; then an even spread."""
+    """The first and last of each refusal, or its two smallest where all are larger than `most`; the smallest with several instructions at fault; then an
+    even spread."""
 
     def size(c):
         return len(c.tables) + len(c.sheet)
@@ -63,6 +68,8 @@ def choose(cases, count, most):
         of = [c for c in small if c.number == number] or sorted((c for c in cases if c.number == number), key=size)[:2]
         for c in of[:12] + of[-12:]:
             chosen[c.index] = c
+    several = sorted((c for c in cases if len(c.faults) > 1 and c.faults[0] > 0), key=size)
+    chosen.update({c.index: c for c in several[:24]})
     step = max(1, len(small) // max(1, count - len(chosen)))
     for c in small[::step]:
         if len(chosen) < count:

@@ -9,7 +9,7 @@ struct answer {
     struct bytes tables, sheet, records; /* the records as bytes, when accepted */
     uint64_t room;                       /* bytes of the record slice that is lent */
     uint64_t number, place;
-    struct numbers faults; /* everything at fault for the plain test */
+    struct numbers faults; /* everything at fault, ascending; the plain test names the first */
 };
 
 struct cases {

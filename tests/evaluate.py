@@ -3,8 +3,9 @@
 
 usage: evaluate.py [--answers N] [--most BYTES] [--runs N] [--jobs N] [--apart]
 
-At most N answers of the fixed list (default 320), of at most BYTES bytes of tables and sheet (default 480) but that every refusal is among them, and N
-runs (default 120). Each job is one crate of equations. --apart leaves target/ alone, which another run may be writing.
+At most N answers of the fixed list (default 320), of at most BYTES bytes of tables and sheet (default 480) but that every refusal and several
+instructions at fault are among them, and N runs (default 120). Each job is one crate of equations. --apart leaves target/ alone, which another run
+may be writing.
 """
 import argparse, time
 import answers, runs, scratch

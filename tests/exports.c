@@ -3,7 +3,7 @@
  * usage: exports FILE
  *
  * Held for each case: number and place; the records, and every byte behind them or, after a refusal, every byte as it was, up to a margin behind
- * the slice that is lent; tables and sheet unchanged; the plain test's verdict, with 0 or a number at fault for its place. */
+ * the slice that is lent; tables and sheet unchanged; the plain test's verdict, with 0 or the first number at fault for its place. */
 #include <inttypes.h>
 #include <stdlib.h>
 #include <string.h>
@@ -45,17 +45,11 @@ static void check_lower(const struct answer *a, const uint8_t *tables, const uin
     free(records);
 }
 
-static bool is_fault(const struct answer *a, uint64_t place) {
-    for (size_t i = 0; i < a->faults.count; i++)
-        if (a->faults.at[i] == place) return true;
-    return false;
-}
-
 static void check_plain(const struct answer *a, const uint8_t *tables, const uint8_t *sheet, uint64_t number) {
     uint64_t place = UINT64_MAX;
     uint64_t verdict = gilthoren_plain(tables, a->tables.count, sheet, a->sheet.count, &place);
     if (verdict != (a->faults.count == 0)) cases_stop("another verdict of the plain test", number);
-    if (verdict ? place != 0 : !is_fault(a, place)) cases_stop("the plain test names what is not at fault", number);
+    if (place != (verdict ? 0 : a->faults.at[0])) cases_stop("the plain test names another number than the first at fault", number);
 }
 
 int main(int words, char **word) {

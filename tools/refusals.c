@@ -37,19 +37,26 @@ static size_t cell_line(const struct sheet_text *sheet, uint64_t number, uint64_
     return cell < sheet->cell_lines.count ? sheet->cell_lines.at[cell] : 0;
 }
 
-static size_t instruction_line(const struct sheet_text *sheet, uint64_t place) {
-    return sheet && place >= 1 && place <= sheet->instruction_lines.count ? sheet->instruction_lines.at[place - 1] : 0;
+static void put_line(size_t line, struct bytes *text) {
+    if (line) bytes_print(text, ", line %zu", line);
+}
+
+void instruction_place(const struct sheet_text *sheet, uint64_t place, struct bytes *text) {
+    if (place == 0) {
+        bytes_print(text, "before the body");
+        return;
+    }
+    bytes_print(text, "instruction %" PRIu64, place);
+    put_line(sheet && place <= sheet->instruction_lines.count ? sheet->instruction_lines.at[place - 1] : 0, text);
 }
 
 void refusal_place(const struct sheet_text *sheet, uint64_t number, uint64_t place, struct bytes *text) {
-    bool is_cell = number <= 3;
     if (number == 9) {
         bytes_print(text, "%" PRIu64 " records are needed", place);
-        return;
+    } else if (number >= 4) {
+        instruction_place(sheet, place, text);
+    } else {
+        bytes_print(text, "cell %" PRIu64 " of the %s", place, number == 1 ? "tables" : "sheet");
+        put_line(cell_line(sheet, number, place), text);
     }
-    if (is_cell) bytes_print(text, "cell %" PRIu64 " of the %s", place, number == 1 ? "tables" : "sheet");
-    else if (place == 0) bytes_print(text, "before the body");
-    else bytes_print(text, "instruction %" PRIu64, place);
-    size_t line = is_cell ? cell_line(sheet, number, place) : instruction_line(sheet, place);
-    if (line) bytes_print(text, ", line %zu", line);
 }

@@ -8,7 +8,10 @@
 const char *refusal_word(uint64_t number);
 const char *refusal_meaning(uint64_t number);
 
-/* Adds where a refusal's place is: the cell, the instruction, and the line of the text where there is one. */
+/* Adds an instruction's number, and the line of the text where there is one; 0 is before the body. */
+void instruction_place(const struct sheet_text *sheet, uint64_t place, struct bytes *text);
+
+/* Adds where a refusal's place is: the cell or the instruction, and the line of the text where there is one. */
 void refusal_place(const struct sheet_text *sheet, uint64_t number, uint64_t place, struct bytes *text);
 
 #endif

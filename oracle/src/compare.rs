@@ -144,15 +144,13 @@ fn records_after(case: &Case, records: &Lent) -> Vec<u8> {
     after
 }
 
-/// Yes with place 0, or no with one of the numbers at fault.
+/// Yes with place 0, or no with the first number at fault.
 fn compare_plain(case: &Case, said: Said) -> Result<(), String> {
-    if case.faults.is_empty() {
-        return same("plain test", Said { number: 1, place: 0 }, said);
-    }
-    if said.number == 0 && case.faults.contains(&said.place) {
-        return Ok(());
-    }
-    Err(format!("plain test: wanted no at one of {:?}, found {said:?}", case.faults))
+    let wanted = match case.faults.first() {
+        None => Said { number: 1, place: 0 },
+        Some(first) => Said { number: 0, place: *first },
+    };
+    same("plain test", wanted, said)
 }
 
 fn same(what: &str, wanted: Said, found: Said) -> Result<(), String> {

@@ -2,14 +2,15 @@
 
 use std::collections::HashSet;
 
-use crate::cases::{any, damaged, limits, plain, plain_edges, systematic};
+use crate::cases::{Draft, any, damaged, faulty, limits, plain, plain_edges, systematic};
 use crate::compact::{Case, parse_inputs};
 use crate::rng::Rng;
 
-/// Random functions of every kind, plain ones, and damaged copies.
+/// Random functions of every kind, plain ones, damaged copies, and plain ones with faults put in.
 const ANY: usize = 300;
 const PLAIN: usize = 250;
 const DAMAGED: usize = 250;
+const FAULTY: usize = 120;
 
 /// What the fuzzer found beyond the other cases (tests/fuzz/collect.py).
 const FUZZED: &[u8] = include_bytes!("cases/fuzzed.bin");
@@ -23,9 +24,16 @@ pub fn cases() -> Vec<Case> {
     all.extend((0..ANY).map(|_| any::draft(&mut rng).input().with_random_room(&mut rng)));
     all.extend((0..PLAIN).map(|_| plain::draft(&mut rng).input().with_random_room(&mut rng)));
     all.extend((0..DAMAGED).map(|_| damaged(&mut rng, &small)));
+    all.extend(faulty_drafts(&mut rng).iter().map(|draft| draft.input().with_exact_room()));
     all.extend(limits);
     all.extend(parse_inputs(FUZZED).expect("a file of inputs"));
     without_repeats(all)
+}
+
+/// Short ones, so that several faults stand close together.
+fn faulty_drafts(rng: &mut Rng) -> Vec<Draft> {
+    let drafts = std::iter::repeat_with(|| faulty::draft(rng));
+    drafts.filter(|draft| draft.sheet.body.len() <= 12).take(FAULTY).collect()
 }
 
 fn without_repeats(cases: Vec<Case>) -> Vec<Case> {

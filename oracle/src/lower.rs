@@ -19,7 +19,7 @@ pub const RECORD: usize = 64;
 pub struct Answer {
     /// The list, or refusals 1 to 9.
     pub result: Result<Vec<Record>, Refusal>,
-    /// The plain test: all numbers at fault, ascending.
+    /// The plain test: all numbers at fault, ascending; it names the first.
     pub faults: Vec<u64>,
 }
 

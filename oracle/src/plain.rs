@@ -1,6 +1,6 @@
 //! The plain test: which instructions break a condition of plain integer functions.
 
-use std::collections::{BTreeSet, HashMap};
+use std::collections::{BTreeSet, HashSet};
 
 use crate::read::Refusal;
 use crate::sheet::*;
@@ -9,20 +9,36 @@ const SHORT_LOW: i64 = -(1 << 31);
 const SHORT_HIGH: i64 = (1 << 32) - 1;
 const IMMEDIATE_HIGH: i64 = (1 << 31) - 1;
 
-/// All numbers at fault, ascending: 0 for variables, parameters and return type, else the
-/// instruction's number from 1. `refusal` is one of 4 to 8, a fault at its place.
+/// All numbers at fault, ascending, so that the first is the plain test's answer: 0 for variables,
+/// parameters and return type, else the instruction's number from 1. `refusal` is one of 4 to 8, a
+/// fault at its place.
 pub fn faults(sheet: &Sheet, refusal: Option<Refusal>) -> Vec<u64> {
     let mut faults: BTreeSet<u64> = refusal.iter().map(|refusal| refusal.place).collect();
     if !head_is_plain(sheet) {
         faults.insert(0);
     }
-    let places = label_places(sheet);
+    let broken = sheet.body.iter().map(|instr| !instr_is_plain(sheet, instr));
+    faults.extend((1..).zip(broken).filter(|(_, broken)| *broken).map(|(number, _)| number));
+    faults.extend(label_faults(sheet));
+    faults.into_iter().collect()
+}
+
+/// A label placed twice is charged to its second place, and to each later one; a jump to a label
+/// that stands nowhere to the jump.
+fn label_faults(sheet: &Sheet) -> Vec<u64> {
+    let mut faults = Vec::new();
+    let mut places = HashSet::new();
+    let mut jumps = Vec::new();
     for (number, instr) in (1..).zip(&sheet.body) {
-        if !instr_is_plain(sheet, instr) || !labels_are_plain(instr, &places) {
-            faults.insert(number);
+        match instr {
+            Instr::Label(label) if !places.insert(*label) => faults.push(number),
+            Instr::Jump(label) | Instr::JumpIfNot { label, .. } => jumps.push((number, *label)),
+            _ => {}
         }
     }
-    faults.into_iter().collect()
+    let lost = jumps.into_iter().filter(|(_, label)| !places.contains(label));
+    faults.extend(lost.map(|(number, _)| number));
+    faults
 }
 
 fn head_is_plain(sheet: &Sheet) -> bool {
@@ -132,24 +148,4 @@ fn cast_is_plain(sheet: &Sheet, dest: Variable, src: Operand) -> bool {
     let widens = from == 4 && to == 8;
     let in_range = long_constant(src).is_none_or(|v| (SHORT_LOW..=SHORT_HIGH).contains(&v));
     (!widens || matches!(dest.ty.code, LONG | UNSIGNED_LONG)) && (to >= from || in_range)
-}
-
-/// How often each label stands in the body.
-fn label_places(sheet: &Sheet) -> HashMap<i64, usize> {
-    let mut places = HashMap::new();
-    for instr in &sheet.body {
-        if let Instr::Label(label) = instr {
-            *places.entry(*label).or_insert(0) += 1;
-        }
-    }
-    places
-}
-
-/// No label stands twice; every jump has a place to go.
-fn labels_are_plain(instr: &Instr, places: &HashMap<i64, usize>) -> bool {
-    match instr {
-        Instr::Label(label) => places[label] == 1,
-        Instr::Jump(label) | Instr::JumpIfNot { label, .. } => places.contains_key(label),
-        _ => true,
-    }
 }

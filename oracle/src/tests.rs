@@ -417,10 +417,28 @@ fn faults_of_labels() {
         let sheet = Sheet { labels: 2, body, ..Sheet::default() };
         faults(&sheet, lower(&Tables::default(), &sheet).err())
     };
-    assert_eq!(of(vec![Label(0), Comment, Label(0)]), [1, 3]);
+    assert_eq!(of(vec![Label(0), Comment, Label(0)]), [3]);
     assert_eq!(of(vec![Jump(1), Label(0), Jump(0)]), [1]);
     assert_eq!(of(vec![Comment, Label(2)]), [2]);
-    assert_eq!(of(vec![Label(0), Label(0), Jump(0)]), [1, 2]);
+    assert_eq!(of(vec![Jump(0), Label(0), Label(0)]), [3]);
+    assert_eq!(of(vec![Label(0), Label(1), Label(0), Label(0), Jump(0)]), [3, 4]);
+}
+
+#[test]
+fn faults_of_refusals_and_conditions() {
+    use Instr::{Comment, Jump, Label};
+    let of = |sheet: Sheet| faults(&sheet, lower(&Tables::default(), &sheet).err());
+    let body = |body| of(Sheet { labels: 2, body, ..Sheet::default() });
+    let call = Instr::Call { dest: None, symbol: 0, args: vec![] };
+    // a label beyond its table refuses at its first instruction; a second one is a second place
+    assert_eq!(body(vec![Label(0), Label(0), Jump(2)]), [2, 3]);
+    assert_eq!(body(vec![Label(0), Label(2), Label(0)]), [2, 3]);
+    assert_eq!(body(vec![Comment, Label(2), Label(2)]), [2, 3]);
+    assert_eq!(body(vec![call.clone(), Label(2), call.clone()]), [1, 2, 3]);
+    assert_eq!(body(vec![Label(2), Jump(2)]), [1]);
+    // before the body
+    let variables = vec![Type::scalar(CUSTOM)];
+    assert_eq!(of(Sheet { variables, body: vec![call], ..Sheet::default() }), [0, 1]);
 }
 
 #[test]

@@ -115,11 +115,14 @@ static void check_no_room(uint64_t answer, uint64_t place, const struct lent *t,
     free(none.all);
 }
 
-static void check_plain(uint64_t answer, const struct lent *t, const struct lent *s) {
-    uint64_t place = UINT64_MAX;
-    uint64_t yes = gilthoren_plain(t->bytes, t->length, s->bytes, s->length, &place);
-    must(yes <= 1 && place <= 4096, "the plain test's answer");
-    must(yes == 0 || (place == 0 && (answer == 0 || answer == 9)), "a plain function is lowered");
+/* A plain function is lowered; of others no number is named that lies behind the refusal's place. */
+static void check_plain(uint64_t answer, uint64_t place, const struct lent *t, const struct lent *s) {
+    uint64_t fault = UINT64_MAX;
+    uint64_t yes = gilthoren_plain(t->bytes, t->length, s->bytes, s->length, &fault);
+    must(yes <= 1 && fault <= 4096, "the plain test's answer");
+    must(yes == 0 || (fault == 0 && (answer == 0 || answer == 9)), "a plain function is lowered");
+    must(answer < 1 || answer > 3 || fault == 0, "a refusal that names a cell is fault 0");
+    must(answer < 4 || answer > 8 || fault <= place, "a fault before the refusal's place comes first");
 }
 
 int LLVMFuzzerTestOneInput(const uint8_t *data, size_t size) {
@@ -131,7 +134,7 @@ int LLVMFuzzerTestOneInput(const uint8_t *data, size_t size) {
 
     check_answer(answer, place, &tables, &sheet, &records);
     check_no_room(answer, place, &tables, &sheet);
-    check_plain(answer, &tables, &sheet);
+    check_plain(answer, place, &tables, &sheet);
     must(memcmp(old_tables.bytes, tables.bytes, tables.length) == 0, "the tables");
     must(memcmp(old_sheet.bytes, sheet.bytes, sheet.length) == 0, "the sheet");
     unharmed_around(&tables);

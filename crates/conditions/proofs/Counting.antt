@@ -6,7 +6,7 @@ use mathlib.Core.List.{List, [], _∷_}
 use native.Mathlib.Omega.{arith}
 use borrow.Author.Tests.{eqb-true, eqb-false, leb-true}
 use lib.Dec.{leb, eqb}
-use lib.ListN.{length, getD, set, length-set}
+use lib.ListN.{length, getD, set, replicate, length-set, length-replicate, getD-replicate}
 use lib.Seq.{getD-set-same, getD-set-other}
 use denote.Enum.Declared.{tagOf}
 use types.Run.{OneOf, miss}
@@ -78,6 +78,11 @@ more-long (Instr.JumpIfNot x l) counts = refl
 more-long (Instr.Return x) counts = refl
 more-long Instr.Comment counts = refl
 
+-- no line at all
+pub none-counted-yet : Counts [] (replicate 256 0)
+unfolding labelCount
+none-counted-yet = record { long = length-replicate {A = ℕ} 256 0; each = λ l h. getD-replicate {A = ℕ} 256 l 0 0 h }
+
 -- ---- the body
 
 label-few : (l : ℕ) (is : List Line) → labelCount l is ≤ length is
@@ -96,6 +101,18 @@ label-step l i is = go (isLabel l (i .instr))
     go : (b : Bool) → cond b (suc (labelCount l is)) (labelCount l is) ≡ cond b 1 0 + labelCount l is
     go true = omega arith
     go false = omega arith
+
+-- behind one more line
+pub one-more : {lines : List Line} {counts : List ℕ} → Counts lines counts → (i : Line) → Counts (i ∷ lines) (oneMore (i .instr) counts)
+one-more {lines} {counts} m i =
+    record {
+      long = more-long (i .instr) counts ∙ m .long;
+      each = λ l h. omega (arith, more counts (m .long) l h (i .instr), m .each l h, label-step l i lines);
+    }
+
+-- lines that are few leave room for more
+pub few-lines : {lines : List Line} {counts : List ℕ} → Counts lines counts → length lines ≤ 4096 → Few counts
+few-lines {lines} m h = record { each = λ l p. omega (arith, m .each l p, label-few l lines) }
 
 pub record Counting (s : List ℕ) (left cell : ℕ) (counts : List ℕ) : Type 0 where
   pub walk : Walk s left cell

@@ -3,3 +3,5 @@ pub mod Tests
 pub mod Counting
 pub mod Faults
 pub mod Headed
+pub mod Named
+pub mod Answered

@@ -13,7 +13,7 @@ use borrow.Author.Tests.{le-leb, lt-leb}
 use Rattle.ir.specs.declared.VarId.{VarId}
 use Rattle.ir.specs.declared.Operand.{Operand}
 use Rattle.layout.proofs.Passed.{apart}
-use Rattle.ir.specs.Function.{Function, BinaryOp, binaryOp}
+use Rattle.ir.specs.Function.{Function, Line, BinaryOp, binaryOp}
 use Rattle.machine.specs.Plain.{isPlainCode, isUnsignedDest, isOneByte, isScalarVar, isPlainOperand, isBoolType, isPlainBinary, isPlainInstr}
 use Rattle.conditions.specs.Parts.{isSame, isPlainPair, Counts}
 
@@ -117,12 +117,12 @@ module _ (d : VarId) (x y : Operand) where
   pub remainder : (k : ℕ) → 17 ≤ k → (isSame d x && (isUnsignedDest d && not (isOneByte d))) ≡ isPlainBinary (binaryOp k) d x y
   remainder k l = last ∙ ap (λ (o : BinaryOp). isPlainBinary o d x y) (beyond k l)
 
--- a label's count in the slice is its count in the body
-module _ (F : Function) (counts : List ℕ) (h : Counts (F .body) counts) (l : ℕ) (small : l < 256) where
-  pub once-is : eqb (getD counts l 0) 1 ≡ isPlainInstr F (Instr.Label l)
+-- a label's count in the slice is its count among the lines
+module _ (F : Function) (before : List Line) (l : ℕ) (small : l < 256) where
+  pub new-is : {counts : List ℕ} → Counts before counts → eqb (getD counts l 0) 0 ≡ isPlainInstr F before (Instr.Label l)
   unfolding isPlainInstr
-  once-is = rw (h .each l small)
+  new-is h = rw (h .each l small)
 
-  pub stands-is : leb 1 (getD counts l 0) ≡ isPlainInstr F (Instr.Jump l)
+  pub stands-is : {counts : List ℕ} → Counts (F .body) counts → leb 1 (getD counts l 0) ≡ isPlainInstr F before (Instr.Jump l)
   unfolding isPlainInstr
-  stands-is = rw (h .each l small)
+  stands-is h = rw (h .each l small)

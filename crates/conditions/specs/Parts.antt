@@ -1,17 +1,19 @@
--- Auxiliary: parts of the plain test that one function of it decides (01, "Plain integer functions"); machine's `isPlainHead` and `isPlainInstr` are made of
--- them, by proofs/Headed and proofs/Tests.
+-- Auxiliary: parts of the plain test that one function of it decides. `verdict`, with the lowering's answer, is the first fault (machine's `firstFault`) by the
+-- laws of proofs/Answered.antt.
 use Prim.Native.Nat.{ℕ, suc, _+_, _<_, _≤_}
 use mathlib.Core.Path.{_≡_}
 use mathlib.Core.Bool.{Bool, true, false, cond, not, _&&_, _||_}
 use mathlib.Core.List.{List, [], _∷_}
 use lib.Dec.{ltb, leb, eqb}
-use lib.ListN.{length, getD, set}
+use lib.ListN.{length, take, getD, set}
 use Rattle.ir.specs.declared.«Type».{«Type» as IrType}
 use Rattle.ir.specs.declared.VarId.{VarId}
 use Rattle.ir.specs.declared.Operand.{Operand}
 use Rattle.ir.specs.declared.Instr.{Instr}
+use Rattle.x86.specs.declared.enums.Instruction.{Instruction}
 use Rattle.ir.specs.Types.{bytes}
 use Rattle.ir.specs.Function.{Function, Line}
+use Rattle.codegen.specs.Generation.{accepted, refused, compiled}
 use Rattle.machine.specs.Steps.{width}
 use Rattle.machine.specs.Plain.{every, isPlainCode, isPlainHead, isShort, isScalarVar, isPlainOperand, isBool, isPlainInstr, labelCount}
 use Rattle.conditions.specs.declared.Plainness.{Plainness}
@@ -67,10 +69,10 @@ labelOf Instr.Comment = 0
 unfoldable pub areNamed : List Line → Bool
 areNamed is = every (λ i. ltb (labelOf (i .instr)) 256) is
 
--- how often each label stands in a body
-pub record Counts (body : List Line) (counts : List ℕ) : Type 0 where
+-- how often each label stands among lines
+pub record Counts (lines : List Line) (counts : List ℕ) : Type 0 where
   pub long : length counts ≡ 256
-  pub each : (l : ℕ) → l < 256 → getD counts l 0 ≡ labelCount l body
+  pub each : (l : ℕ) → l < 256 → getD counts l 0 ≡ labelCount l lines
 
 -- there is room for more instructions
 pub record Few (counts : List ℕ) : Type 0 where
@@ -89,11 +91,22 @@ oneMore (Instr.JumpIfNot x l) counts = counts
 oneMore (Instr.Return x) counts = counts
 oneMore Instr.Comment counts = counts
 
--- the first instruction at fault, where the first is number k
-unfoldable pub firstFault : Function → ℕ → List Line → Plainness
-firstFault F k [] = Plainness.Yes
-firstFault F k (i ∷ is) = cond (isPlainInstr F (i .instr)) (firstFault F (suc k) is) (Plainness.No k)
+-- the first instruction at fault, where the first is number k, behind the lines `before`
+unfoldable pub firstOf : Function → List Line → ℕ → List Line → Plainness
+firstOf F before k [] = Plainness.Yes
+firstOf F before k (i ∷ is) = cond (isPlainInstr F before (i .instr)) (firstOf F (i ∷ before) (suc k) is) (Plainness.No k)
 
--- of a function that the lowering accepts
-unfoldable pub verdict : Function → Plainness
-verdict F = cond (isPlainHead F) (firstFault F 1 (F .body)) (Plainness.No 0)
+-- of the head and the first n instructions
+unfoldable pub verdict : Function → ℕ → Plainness
+verdict F n = cond (isPlainHead F) (firstOf F [] 1 (take n (F .body))) (Plainness.No 0)
+
+-- ---- what the lowering answers, with some tables
+
+pub record Accepts (s : List ℕ) : Type 0 where
+  pub tables : List ℕ
+  pub list : List Instruction
+  pub is : compiled tables s ≡ accepted list
+
+pub record Refuses (s : List ℕ) (number place : ℕ) : Type 0 where
+  pub tables : List ℕ
+  pub is : compiled tables s ≡ refused number place

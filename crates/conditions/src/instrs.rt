@@ -15,11 +15,12 @@ use ir::Operand;
 use ir::VarId;
 ghost use mathlib.Core.Path.{_≡_};
 ghost use mathlib.Core.Bool.{not, _&&_};
+ghost use mathlib.Core.List.{List, []};
 ghost use Prim.Native.Nat.{_≤_, _<_};
 ghost use lib.Dec.{eqb, leb};
 ghost use lib.ListN.{getD};
 ghost use Rattle.cells.specs.Cells.{cells};
-ghost use Rattle.ir.specs.Function.{functionOf, paramsFrom, binaryOp};
+ghost use Rattle.ir.specs.Function.{Line, functionOf, paramsFrom, binaryOp};
 ghost use Rattle.machine.specs.Steps.{width};
 ghost use Rattle.machine.specs.Plain.{isUnsignedDest, isOneByte, isPlainBinary, isPlainCast, isPlainInstr};
 ghost use Rattle.conditions.specs.Parts.{isSame, isPlainMove, isPlainPair, isWide, isCondition, labelOf, Counts};
@@ -143,7 +144,7 @@ fn is_plain_move(sheet: &[u8], d: VarId, x: Operand) -> bool
 
 fn is_plain_two(sheet: &[u8], op: u64, d: VarId, x: Operand, y: Operand) -> bool
     requires { ⌜ paramsFrom (now sheet) ≤ cells (now sheet) ⌝ }
-    ensures { λ r. ⌜ r ≡ isPlainInstr (functionOf (now (sheet .entry))) (Instr.Binary d op x y) ⌝ }
+    ensures { λ r. ⌜ r ≡ isPlainInstr (functionOf (now (sheet .entry))) [] (Instr.Binary d op x y) ⌝ }
 {
     if is_plain_pair(sheet, d, x) {
         if is_plain_operand(sheet, y) {
@@ -159,7 +160,7 @@ fn is_plain_two(sheet: &[u8], op: u64, d: VarId, x: Operand, y: Operand) -> bool
 
 fn is_plain_conversion(sheet: &[u8], d: VarId, x: Operand) -> bool
     requires { ⌜ paramsFrom (now sheet) ≤ cells (now sheet) ⌝ }
-    ensures { λ r. ⌜ r ≡ isPlainInstr (functionOf (now (sheet .entry))) (Instr.Cast d x) ⌝ }
+    ensures { λ r. ⌜ r ≡ isPlainInstr (functionOf (now (sheet .entry))) [] (Instr.Cast d x) ⌝ }
 {
     if is_plain_pair(sheet, d, x) {
         is_plain_cast(d, x)
@@ -168,17 +169,17 @@ fn is_plain_conversion(sheet: &[u8], d: VarId, x: Operand) -> bool
     }
 }
 
-// The label `l` stands once.
-fn is_once(counts: &[u64; 256], l: u64) -> bool
+// The label `l` has not stood.
+fn is_new(counts: &[u16; 256], l: u64) -> bool
     requires { ⌜ l < 256 ⌝ }
-    ensures { λ r. ⌜ r ≡ eqb (getD (now (counts .entry)) l 0) 1 ⌝ }
+    ensures { λ r. ⌜ r ≡ eqb (getD (now (counts .entry)) l 0) 0 ⌝ }
 {
     let k = l as usize;
-    counts[k] == 1
+    counts[k] == 0
 }
 
 // The label `l` stands.
-fn stands(counts: &[u64; 256], l: u64) -> bool
+fn stands(counts: &[u16; 256], l: u64) -> bool
     requires { ⌜ l < 256 ⌝ }
     ensures { λ r. ⌜ r ≡ leb 1 (getD (now (counts .entry)) l 0) ⌝ }
 {
@@ -198,11 +199,11 @@ fn is_condition(sheet: &[u8], x: Operand) -> bool
     }
 }
 
-fn is_plain_branch(sheet: &[u8], counts: &[u64; 256], x: Operand, l: u64) -> bool
+fn is_plain_branch(sheet: &[u8], counts: &[u16; 256], x: Operand, l: u64) -> bool
     requires { ⌜ paramsFrom (now sheet) ≤ cells (now sheet) ⌝ }
     requires { ⌜ Counts (functionOf (now sheet) .body) (now counts) ⌝ }
     requires { ⌜ l < 256 ⌝ }
-    ensures { λ r. ⌜ r ≡ isPlainInstr (functionOf (now (sheet .entry))) (Instr.JumpIfNot x l) ⌝ }
+    ensures { λ r. ⌜ r ≡ isPlainInstr (functionOf (now (sheet .entry))) [] (Instr.JumpIfNot x l) ⌝ }
 {
     if is_condition(sheet, x) {
         stands(counts, l)
@@ -211,12 +212,12 @@ fn is_plain_branch(sheet: &[u8], counts: &[u64; 256], x: Operand, l: u64) -> boo
     }
 }
 
-// `counts` has how often each label stands in the body.
-pub fn is_plain_instr(sheet: &[u8], counts: &[u64; 256], instr: Instr) -> bool
+// `counts` has how often each label stands in the body, `before` how often before this instruction.
+pub fn is_plain_instr(sheet: &[u8], counts: &[u16; 256], before: &[u16; 256], instr: Instr) -> bool
     requires { ⌜ paramsFrom (now sheet) ≤ cells (now sheet) ⌝ }
     requires { ⌜ Counts (functionOf (now sheet) .body) (now counts) ⌝ }
     requires { ⌜ labelOf instr < 256 ⌝ }
-    ensures { λ r. ⌜ r ≡ isPlainInstr (functionOf (now (sheet .entry))) instr ⌝ }
+    ensures { λ r. ⌜ ((lines : List Line) → Counts lines (now (before .entry)) → r ≡ isPlainInstr (functionOf (now (sheet .entry))) lines instr) ⌝ }
 {
     match instr {
         Instr::Copy { dest, src } => is_plain_move(sheet, dest, src),
@@ -234,7 +235,7 @@ pub fn is_plain_instr(sheet: &[u8], counts: &[u64; 256], instr: Instr) -> bool
             symbol: _,
             count: _,
         } => false,
-        Instr::Label(l) => is_once(counts, l),
+        Instr::Label(l) => is_new(before, l),
         Instr::Jump(l) => stands(counts, l),
         Instr::JumpIfNot { cond, target } => is_plain_branch(sheet, counts, cond, target),
         Instr::Return(x) => is_plain_operand(sheet, x),

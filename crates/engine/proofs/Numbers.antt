@@ -1,15 +1,17 @@
 -- From the counted answer to the numbers that C gets.
 use Prim.Native.Nat.{ℕ}
-use mathlib.Core.Path.{_≡_, refl, ap, _∙_}
+use mathlib.Core.Path.{_≡_, refl, sym}
+use mathlib.Core.Logic.{_↔_}
+use mathlib.Core.Option.{none, some}
 use mathlib.Core.List.{List}
 use native.Mathlib.Omega.{arith}
 use lib.ListN.{length}
 use Rattle.x86.specs.declared.enums.Instruction.{Instruction}
 use Rattle.codegen.specs.Generation.{Outcome, accepted, refused}
-use Rattle.conditions.specs.declared.Plainness.{Plainness}
-use Rattle.plain.specs.Answers.{Says}
+use Rattle.machine.specs.Plain.{Plain, firstFault}
+use Rattle.machine.proofs.First.{plain-first}
 use Rattle.generation.specs.Answers.{countedOutcome}
-use Rattle.engine.specs.Numbers.{numberOf, valueOf, PlainSays}
+use Rattle.engine.specs.Numbers.{numberOf, valueOf}
 
 pub accepted-numbers : (o : Outcome (List Instruction)) {n : ℕ} → accepted n ≡ countedOutcome o → (0 ≡ numberOf o) × (n ≡ valueOf o)
 accepted-numbers (accepted is) e = (refl, cc)
@@ -23,8 +25,9 @@ pub refused-is : (o : Outcome (List Instruction)) {n p : ℕ} → refused n p �
 refused-is (accepted is) e = let z : _≡_ {A = ℕ} 0 1 = cc in absurd (omega arith)
 refused-is (refused m q) e = cc
 
-pub plain-yes : {t s : List ℕ} → Says t s Plainness.Yes → PlainSays t s 1 0
-plain-yes h = record { flag = rw (← h .answer); yes = λ e. h .named; none = λ e. refl; no = λ e. absurd (omega arith) }
+-- 1 exactly where the function is plain
+pub plain-yes : {t s : List ℕ} → none ≡ firstFault t s → _≡_ {A = ℕ} 1 1 ↔ Plain t s
+plain-yes {t} {s} e = (λ z. plain-first t s .1 (sym e), λ p. refl)
 
-pub plain-no : {t s : List ℕ} {n : ℕ} → Says t s (Plainness.No n) → PlainSays t s 0 n
-plain-no h = record { flag = rw (← h .answer); yes = λ e. absurd (omega arith); none = λ e. absurd (omega arith); no = λ e. h .named }
+pub plain-no : {t s : List ℕ} {k : ℕ} → some k ≡ firstFault t s → _≡_ {A = ℕ} 0 1 ↔ Plain t s
+plain-no {t} {s} e = (λ z. absurd (omega arith), λ p. let y = plain-first t s .0 p in cc)

@@ -4,13 +4,14 @@ use generation::Answer;
 use generation::generate;
 use plain::plain;
 ghost use mathlib.Core.Path.{_≡_};
+ghost use mathlib.Core.Logic.{_↔_};
 ghost use Prim.Native.Nat.{_≤_};
 ghost use lib.ListN.{length};
 ghost use Rattle.codegen.specs.Generation.{lowered, recordsAfter};
-ghost use Rattle.machine.specs.Plain.{Plain};
+ghost use Rattle.machine.specs.Plain.{Plain, firstFault};
 ghost use Rattle.machine.specs.Calls.{Demand2};
 ghost use Rattle.machine.specs.Simulation.{Demand3};
-ghost use Rattle.engine.specs.Numbers.{numberOf, valueOf, PlainSays};
+ghost use Rattle.engine.specs.Numbers.{numberOf, valueOf, yesOf, faultOf};
 
 // Lowers the sheet. Gives 0, with the number of records in `place`, or the number of a refusal, with its place.
 #[no_mangle]
@@ -40,11 +41,13 @@ pub extern "C" fn gilthoren_lower(
     }
 }
 
-// The plain test. Gives 1 for yes, with 0 in `place`; or 0 for no, with a number that is at fault.
+// The plain test. Gives 1 for yes, with 0 in `place`; or 0 for no, with the first number at fault.
 #[no_mangle]
 pub extern "C" fn gilthoren_plain(tables: &[u8], sheet: &[u8], place: &mut u64) -> u64
+    ensures answer { λ r. ⌜ r ≡ yesOf (firstFault (now (tables .entry)) (now (sheet .entry))) ⌝ }
+    ensures place { λ r. ⌜ now (place .exit) ≡ faultOf (firstFault (now (tables .entry)) (now (sheet .entry))) ⌝ }
     ensures lent { λ r. ⌜ (now (tables .exit) ≡ now (tables .entry)) × (now (sheet .exit) ≡ now (sheet .entry)) ⌝ }
-    ensures answer { λ r. ⌜ PlainSays (now (tables .entry)) (now (sheet .entry)) r (now (place .exit)) ⌝ }
+    ensures plain { λ r. ⌜ r ≡ 1 ↔ Plain (now (tables .entry)) (now (sheet .entry)) ⌝ }
 {
     match plain(tables, sheet) {
         Plainness::Yes => {

@@ -41,3 +41,6 @@ pub mod Inside
 pub mod Computing
 pub mod Demand2
 pub mod SignedOrder
+pub mod Once
+pub mod Refused
+pub mod First

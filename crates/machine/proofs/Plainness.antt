@@ -290,18 +290,18 @@ plain-move F d x e =
     let g = both (isPlainOperand F x) (eqb (width x) (bytes (d .ty))) (h .1) in
     (plain-scalar F d (h .0), plain-operand F x (g .0), eqb-true (width x) (bytes (d .ty)) (g .1))
 
-pub plain-instr : (F : Function) (i : Instr) → isPlainInstr F i ≡ true → PlainInstr F i
+pub plain-instr : (F : Function) (before : List Line) (i : Instr) → isPlainInstr F before i ≡ true → PlainInstr F i
 unfolding isPlainInstr
-plain-instr F (Instr.Copy d x) e = plain-move F d x e
-plain-instr F (Instr.Unary d op x) e = plain-move F d x e
-plain-instr F (Instr.Binary d op x y) e =
+plain-instr F before (Instr.Copy d x) e = plain-move F d x e
+plain-instr F before (Instr.Unary d op x) e = plain-move F d x e
+plain-instr F before (Instr.Binary d op x y) e =
     let h = both (isScalarVar F d) (isPlainOperand F x && (isPlainOperand F y && (eqb (width x) (width y) && isPlainBinary (binaryOp op) d x y))) e in
     let g = both (isPlainOperand F x) (isPlainOperand F y && (eqb (width x) (width y) && isPlainBinary (binaryOp op) d x y)) (h .1) in
     let f = both (isPlainOperand F y) (eqb (width x) (width y) && isPlainBinary (binaryOp op) d x y) (g .1) in
     let t = both (eqb (width x) (width y)) (isPlainBinary (binaryOp op) d x y) (f .1) in
     let b : PlainBinary (binaryOp op) d x y = plain-binary (binaryOp op) d x y (t .1) in
     (plain-scalar F d (h .0), plain-operand F x (g .0), plain-operand F y (f .0), eqb-true (width x) (width y) (t .0), b, not-logical op d x y b)
-plain-instr F (Instr.Cast d x) e =
+plain-instr F before (Instr.Cast d x) e =
     let h = both (isScalarVar F d) (isPlainOperand F x && isPlainCast d x) e in
     let g = both (isPlainOperand F x) (isPlainCast d x) (h .1) in (
       plain-scalar F d (h .0),
@@ -309,16 +309,16 @@ plain-instr F (Instr.Cast d x) e =
       narrow d x (both
           (not (eqb (width x) 4 && eqb (bytes (d .ty)) 8) || (eqb (d .ty .code) 1 || eqb (d .ty .code) 2)) _ (g .1) .1),
     )
-plain-instr F (Instr.Zero d) e = plain-entry F d e
-plain-instr F (Instr.Call d f count) e = absurd (false≢true e)
-plain-instr F (Instr.Label l) e = tt
-plain-instr F (Instr.Jump l) e = stands l (F .body) (leb-true 1 (labelCount l (F .body)) e)
-plain-instr F (Instr.JumpIfNot x l) e =
+plain-instr F before (Instr.Zero d) e = plain-entry F d e
+plain-instr F before (Instr.Call d f count) e = absurd (false≢true e)
+plain-instr F before (Instr.Label l) e = tt
+plain-instr F before (Instr.Jump l) e = stands l (F .body) (leb-true 1 (labelCount l (F .body)) e)
+plain-instr F before (Instr.JumpIfNot x l) e =
     let h = both (isPlainOperand F x) (isBool x && leb 1 (labelCount l (F .body))) e in
     let g = both (isBool x) (leb 1 (labelCount l (F .body))) (h .1) in
     (plain-operand F x (h .0), bool-width x (g .0), stands l (F .body) (leb-true 1 (labelCount l (F .body)) (g .1)))
-plain-instr F (Instr.Return x) e = plain-operand F x e
-plain-instr F Instr.Comment e = tt
+plain-instr F before (Instr.Return x) e = plain-operand F x e
+plain-instr F before Instr.Comment e = tt
 
 -- ---- the whole function
 
@@ -354,11 +354,14 @@ plain-return ty e =
     go true q t = at 0 q refl
     go false q t = more (isPlainCode (ty .code)) refl t
 
-plain-line : (F : Function) (ls : List Line) (k : ℕ) (l : Line) (r : List Line) → isPlainLine F ls k ≡ true → drop k ls ≡ l ∷ r → PlainInstr F (l .instr)
-plain-line F [] zero l r e d = absurd (cons-not-nil (sym d))
-plain-line F [] (suc k) l r e d = absurd (cons-not-nil (sym d))
-plain-line F (i ∷ is) zero l r e d = let h : i ≡ l = cc in subst (λ (j : Line). PlainInstr F (j .instr)) h (plain-instr F (i .instr) e)
-plain-line F (i ∷ is) (suc k) l r e d = plain-line F is k l r e d
+plain-line : (F : Function) (before ls : List Line) (k : ℕ) (l : Line) (r : List Line) → isPlainLine F before ls k ≡ true → drop k ls ≡ l ∷ r
+    → PlainInstr F (l .instr)
+plain-line F before [] zero l r e d = absurd (cons-not-nil (sym d))
+plain-line F before [] (suc k) l r e d = absurd (cons-not-nil (sym d))
+plain-line F before (i ∷ is) zero l r e d =
+    let h : i ≡ l = cc in
+    subst (λ (j : Line). PlainInstr F (j .instr)) h (plain-instr F before (i .instr) e)
+plain-line F before (i ∷ is) (suc k) l r e d = plain-line F (i ∷ before) is k l r e d
 
 pub meant : (F : Function) → ((k : ℕ) → isPlainAt F k ≡ true) → Meant F
 unfolding isPlainAt isPlainHead
@@ -370,5 +373,5 @@ meant F h =
       few = leb-true (length (F .params)) 6 (c .0);
       params = plain-params F (F .params) (both (areDistinct (F .params)) _ (c .1) .1);
       ret = plain-return (F .ret) (b .0);
-      lines = λ k l r d. plain-line F (F .body) k l r (h (suc k)) d;
+      lines = λ k l r d. plain-line F [] (F .body) k l r (h (suc k)) d;
     }

@@ -4,6 +4,7 @@ use Prim.Native.Nat.{ℕ, zero, suc, _+_, _%_, _^_}
 use mathlib.Core.Path.{_≡_}
 use mathlib.Core.Bool.{Bool, true, false, cond, not, _&&_, _||_}
 use mathlib.Core.List.{List, [], _∷_}
+use mathlib.Core.Option.{Option, none, some}
 use lib.Dec.{ltb, leb, eqb}
 use lib.ListN.{length, getD}
 use Rattle.ir.specs.declared.«Type».{«Type» as IrType}
@@ -140,38 +141,38 @@ isPlainCast d x =
     (not (eqb (width x) 4 && eqb (bytes (d .ty)) 8) || (eqb (d .ty .code) 1 || eqb (d .ty .code) 2))
     && (leb 8 (bytes (d .ty)) || longConstant isShort x)
 
--- how often a label stands in a body
+-- how often a label stands among lines
 unfoldable pub labelCount : ℕ → List Line → ℕ
 labelCount l [] = 0
 labelCount l (i ∷ is) = cond (isLabel l (i .instr)) (suc (labelCount l is)) (labelCount l is)
 
--- arrays only under Zero; no calls; no label stands twice, and one that is jumped to stands
-unfoldable pub isPlainInstr : Function → Instr → Bool
-isPlainInstr F (Instr.Copy d x) = isScalarVar F d && (isPlainOperand F x && eqb (width x) (bytes (d .ty)))
-isPlainInstr F (Instr.Unary d op x) = isScalarVar F d && (isPlainOperand F x && eqb (width x) (bytes (d .ty)))
-isPlainInstr F (Instr.Binary d op x y) =
+-- behind the lines `before`: arrays only under Zero; no calls; a label has not stood before, and one that is jumped to stands in the body
+unfoldable pub isPlainInstr : Function → List Line → Instr → Bool
+isPlainInstr F before (Instr.Copy d x) = isScalarVar F d && (isPlainOperand F x && eqb (width x) (bytes (d .ty)))
+isPlainInstr F before (Instr.Unary d op x) = isScalarVar F d && (isPlainOperand F x && eqb (width x) (bytes (d .ty)))
+isPlainInstr F before (Instr.Binary d op x y) =
     isScalarVar F d && (isPlainOperand F x && (isPlainOperand F y && (eqb (width x) (width y) && isPlainBinary (binaryOp op) d x y)))
-isPlainInstr F (Instr.Cast d x) = isScalarVar F d && (isPlainOperand F x && isPlainCast d x)
-isPlainInstr F (Instr.Zero d) = isEntry F d
-isPlainInstr F (Instr.Call d symbol count) = false
-isPlainInstr F (Instr.Label l) = eqb (labelCount l (F .body)) 1
-isPlainInstr F (Instr.Jump l) = leb 1 (labelCount l (F .body))
-isPlainInstr F (Instr.JumpIfNot x l) = isPlainOperand F x && (isBool x && leb 1 (labelCount l (F .body)))
-isPlainInstr F (Instr.Return x) = isPlainOperand F x
-isPlainInstr F Instr.Comment = true
+isPlainInstr F before (Instr.Cast d x) = isScalarVar F d && (isPlainOperand F x && isPlainCast d x)
+isPlainInstr F before (Instr.Zero d) = isEntry F d
+isPlainInstr F before (Instr.Call d symbol count) = false
+isPlainInstr F before (Instr.Label l) = eqb (labelCount l before) 0
+isPlainInstr F before (Instr.Jump l) = leb 1 (labelCount l (F .body))
+isPlainInstr F before (Instr.JumpIfNot x l) = isPlainOperand F x && (isBool x && leb 1 (labelCount l (F .body)))
+isPlainInstr F before (Instr.Return x) = isPlainOperand F x
+isPlainInstr F before Instr.Comment = true
 
 -- ---- faults
 
--- instruction k of the body, from 1
-abbrev pub isPlainLine : Function → List Line → ℕ → Bool
-isPlainLine F [] k = true
-isPlainLine F (i ∷ is) zero = isPlainInstr F (i .instr)
-isPlainLine F (i ∷ is) (suc k) = isPlainLine F is k
+-- line k of a list, from 0, behind the lines `before`, the nearest of them first
+abbrev pub isPlainLine : Function → List Line → List Line → ℕ → Bool
+isPlainLine F before [] k = true
+isPlainLine F before (i ∷ is) zero = isPlainInstr F before (i .instr)
+isPlainLine F before (i ∷ is) (suc k) = isPlainLine F (i ∷ before) is k
 
 -- whether a function meets every condition at a number
 unfoldable pub isPlainAt : Function → ℕ → Bool
 isPlainAt F zero = isPlainHead F
-isPlainAt F (suc k) = isPlainLine F (F .body) k
+isPlainAt F (suc k) = isPlainLine F [] (F .body) k
 
 -- a refusal counts as a fault at its place
 abbrev pub isRefusedAt : {A : Type 0} → Outcome A → ℕ → Bool
@@ -192,3 +193,16 @@ isFault tables sheet k =
 -- no number is at fault
 pub record Plain (tables sheet : List ℕ) : Type 0 where
   pub faultless : (k : ℕ) → isFault tables sheet k ≡ false
+
+-- ---- the first fault
+
+-- the first number at fault from k on, as many numbers as there are lines
+unfoldable pub firstAmong : (ℕ → Bool) → ℕ → List Line → Option ℕ
+firstAmong f k [] = none
+firstAmong f k (i ∷ is) = let later = firstAmong f (suc k) is in cond (f k) (some k) later
+
+-- what the plain test answers: no number, or the least that is at fault, 0 before every instruction
+unfoldable pub firstFault : List ℕ → List ℕ → Option ℕ
+firstFault tables sheet =
+    let later = firstAmong (isFault tables sheet) 1 (functionOf sheet .body) in
+    cond (isFault tables sheet 0) (some 0) later

@@ -1,24 +1,19 @@
-// The plain test (01, "Plain integer functions"): whether a function's lowering is what demand 3 speaks of, or else some instruction at fault.
+// The plain test (01, "Plain integer functions"): whether a function's lowering is what demand 3 speaks of, or else the first fault.
 use conditions::Plainness;
-use conditions::conditions;
+use conditions::plain_accepted;
+use conditions::plain_refused;
 use generation::Answer;
 use generation::count;
 ghost use mathlib.Core.Path.{_≡_};
-ghost use Rattle.plain.specs.Answers.{Says, faultOf};
+ghost use Rattle.machine.specs.Plain.{firstFault};
+ghost use Rattle.conditions.specs.Answers.{plainSays};
 
-// The number at fault where the lowering refuses: 0 for refusals 1 to 3, else the refusal's place.
-fn fault_of(number: u64, place: u64) -> u64
-    ensures { λ r. ⌜ r ≡ faultOf number place ⌝ }
-{
-    if number < 4 { 0 } else { place }
-}
-
-// Whether every condition holds, or else some number at fault.
+// Yes where every condition holds, or no with the first number at fault.
 pub fn plain(tables: &[u8], sheet: &[u8]) -> Plainness
-    ensures { λ r. ⌜ Says (now (tables .entry)) (now (sheet .entry)) r ⌝ }
+    ensures { λ r. ⌜ plainSays r ≡ firstFault (now (tables .entry)) (now (sheet .entry)) ⌝ }
 {
     match count(tables, sheet) {
-        Answer::Accepted(_) => conditions(sheet),
-        Answer::Refused(number, place) => Plainness::No(fault_of(number, place)),
+        Answer::Accepted(_) => plain_accepted(sheet),
+        Answer::Refused(number, place) => plain_refused(sheet, number, place),
     }
 }

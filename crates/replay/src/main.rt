@@ -377,8 +377,8 @@ fn lowering(
     )
 }
 
-// Whether k is among the next n numbers of the list.
-fn is_among(list: &[u8], at: usize, n: u64, k: u64) -> Compared {
+// Whether k is the first of the next n numbers of the list.
+fn is_first(list: &[u8], at: usize, n: u64, k: u64) -> Compared {
     let mut here = at;
     let mut left = n;
     let mut found = false;
@@ -386,8 +386,8 @@ fn is_among(list: &[u8], at: usize, n: u64, k: u64) -> Compared {
         let Read::Number(fault, next) = number(list, here) else {
             return Compared::Bad;
         };
-        if fault == k {
-            found = true;
+        if left == n {
+            found = fault == k;
         }
         here = next;
         left -= 1;
@@ -395,7 +395,7 @@ fn is_among(list: &[u8], at: usize, n: u64, k: u64) -> Compared {
     Compared::At(here, found)
 }
 
-// The plain test of a case, against the list's faults.
+// The plain test of a case, against the first of the list's faults.
 fn plainness(
     list: &[u8],
     at: usize,
@@ -410,7 +410,7 @@ fn plainness(
     match plain(tables, sheet) {
         Plainness::Yes => {
             count(counts, PLAIN, 1);
-            let Compared::At(next, _) = is_among(list, first, n, 0) else {
+            let Compared::At(next, _) = is_first(list, first, n, 0) else {
                 return Place::Bad;
             };
             if 0 < n {
@@ -419,7 +419,7 @@ fn plainness(
             Place::At(next)
         }
         Plainness::No(k) => {
-            let Compared::At(next, found) = is_among(list, first, n, k) else {
+            let Compared::At(next, found) = is_first(list, first, n, k) else {
                 return Place::Bad;
             };
             if !found {

@@ -86,7 +86,7 @@ fn parameter(rng: &mut Rng, sheet: &Sheet) -> Variable {
 }
 
 /// A number at or beyond the end of its table.
-fn beyond(rng: &mut Rng, end: usize) -> i64 {
+pub fn beyond(rng: &mut Rng, end: usize) -> i64 {
     let end = end as i64;
     rng.pick(&[end, end, end + 1, 255, 256, 1 << 32, i64::MAX]).max(end)
 }
@@ -129,7 +129,7 @@ fn operand(rng: &mut Rng, draft: &Draft) -> Operand {
     }
 }
 
-fn instr(rng: &mut Rng, draft: &Draft) -> Instr {
+pub fn instr(rng: &mut Rng, draft: &Draft) -> Instr {
     match rng.below(26) {
         0 | 1 => Instr::Copy { dest: variable(rng, draft), src: operand(rng, draft) },
         2..5 => Instr::Unary {

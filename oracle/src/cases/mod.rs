@@ -2,6 +2,7 @@
 
 pub mod any;
 pub mod damage;
+pub mod faulty;
 pub mod limits;
 pub mod plain;
 pub mod plain_edges;
@@ -59,9 +60,10 @@ impl Input {
 /// One case of any sort.
 pub fn draw(rng: &mut Rng, limits: &[Case]) -> Case {
     match rng.below(20) {
-        0..7 => any::draft(rng).input().with_random_room(rng),
-        7..12 => plain::draft(rng).input().with_random_room(rng),
-        12 => limits[rng.below(limits.len())].clone(),
+        0..6 => any::draft(rng).input().with_random_room(rng),
+        6..10 => plain::draft(rng).input().with_random_room(rng),
+        10..13 => faulty::draft(rng).input().with_random_room(rng),
+        13 => limits[rng.below(limits.len())].clone(),
         _ => damaged(rng, limits),
     }
 }

@@ -20,8 +20,9 @@ const ALL_OPS: std::ops::Range<i64> = 0..18;
 pub fn drafts() -> Vec<Draft> {
     let instrs = [constants(), widths(), operations(), operands(), types()].concat();
     let mut drafts: Vec<Draft> = instrs.into_iter().map(alone).collect();
+    let bodies = [bodies(), mixed()].concat();
     drafts.extend(
-        bodies().into_iter().map(|body| Draft { sheet: Sheet { body, ..base() }, ..tables() }),
+        bodies.into_iter().map(|body| Draft { sheet: Sheet { body, ..base() }, ..tables() }),
     );
     drafts.extend(heads().into_iter().map(|sheet| Draft { sheet, ..tables() }));
     drafts
@@ -207,6 +208,28 @@ fn bodies() -> Vec<Vec<Instr>> {
         vec![Label(0), Jump(0), Label(1), Label(1), Jump(2)],
         vec![Instr::Return(Operand::Null), Comment],
         vec![Instr::Return(Operand::Null), Label(1)],
+        vec![Jump(0), Label(0), Label(0)],
+        vec![Label(1), Label(0), Label(1), Jump(0), Label(0), Label(1)],
+    ]
+}
+
+/// Bodies with more than one fault, refusals among them.
+fn mixed() -> Vec<Vec<Instr>> {
+    use Instr::{Comment, Jump, Label};
+    let call = Instr::Call { dest: None, symbol: 0, args: vec![] };
+    let refused = binary(binary::AND, BOOL, read(BOOL), read(BOOL));
+    let lost = Instr::Return(Operand::Var(Variable { id: 10, ty: Type::scalar(LONG) }));
+    vec![
+        vec![Label(0), Label(0), Jump(2)],
+        vec![Label(0), Jump(2), Label(0)],
+        vec![Jump(1), Comment, refused.clone()],
+        vec![refused.clone(), Jump(1)],
+        vec![Comment, call.clone(), refused.clone(), call.clone()],
+        vec![Comment, refused.clone(), call.clone(), lost.clone()],
+        vec![Label(300), Label(300)],
+        vec![Label(0), Label(0), Label(300), Jump(300)],
+        vec![lost, Label(2), call],
+        vec![Comment, Label(2), Label(2), refused],
     ]
 }
 

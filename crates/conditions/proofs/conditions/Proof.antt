@@ -1,9 +1,6 @@
-use Rattle.conditions.specs.Parts.{Counts, verdict}
-use lib.ListN.{replicate, length-replicate, getD-replicate}
-use mathlib.Core.List.{[]}
-use Prim.Native.Nat.{ℕ}
-use Rattle.machine.specs.Plain.{labelCount}
+use Rattle.conditions.specs.Parts.{verdict}
 use Rattle.layout.proofs.Walk.{has-params}
+use Rattle.conditions.proofs.Counting.{none-counted-yet}
 use borrow.Author.Tests.{not-true, not-false}
 use borrow.Author.Needs.{needs}
 use Rattle.conditions.proofs.conditions.Statement.{statement}
@@ -17,10 +14,7 @@ unfolding verdict
 returns c = simp (← c .before .is-plain-head .ensures, not-true (c .before .is-plain-head .result) (c .if1 .taken))
 
 count-labels-requires : tie.Need-count-labels-requires
-unfolding labelCount
-count-labels-requires c κs =
-    let z : Counts [] (replicate 256 0) = record { long = length-replicate {A = ℕ} 256 0; each = λ l h. getD-replicate {A = ℕ} 256 l 0 0 h } in
-    (c .before .before .before .before .pre .0, z)
+count-labels-requires c κs = (c .before .before .before .before .pre .0, none-counted-yet)
 
 returns-2 : tie.Need-returns-2
 unfolding verdict

@@ -1,6 +1,6 @@
-use mathlib.Core.Path.{refl, subst}
-use Rattle.conditions.specs.declared.Plainness.{Plainness}
-use Rattle.plain.specs.Answers.{Says}
+use mathlib.Core.Path.{refl, sym, ap, _∙_}
+use Rattle.conditions.specs.Answers.{plainSays}
+use Rattle.engine.specs.Numbers.{yesOf, faultOf}
 use Rattle.engine.proofs.Numbers.{plain-yes, plain-no}
 use borrow.Author.Needs.{needs}
 use Rattle.engine.proofs.gilthoren_plain.Statement.{statement}
@@ -8,13 +8,13 @@ use Rattle.engine.proofs.gilthoren_plain.Tie as tie
 
 returns : tie.Need-returns
 returns c =
-    let a = c .before .before .before .before .before .args in
-    ((refl, refl), plain-yes (subst (λ (x : Plainness). Says (a .tables .now) (a .sheet .now) x) (c .enum-told .given .1) (c .before .before .plain .ensures)))
+    let e = sym (ap plainSays (c .enum-told .given .1)) ∙ c .before .before .plain .ensures in
+    (ap yesOf e, (ap faultOf e, ((refl, refl), plain-yes e)))
 
 returns-2 : tie.Need-returns-2
 returns-2 c =
-    let a = c .before .before .before .before .before .before .args in
-    ((refl, refl), plain-no (subst (λ (x : Plainness). Says (a .tables .now) (a .sheet .now) x) (c .before .number .given .1) (c .before .before .before .plain .ensures)))
+    let e = sym (ap plainSays (c .before .number .given .1)) ∙ c .before .before .before .plain .ensures in
+    (ap yesOf e, (ap faultOf e, ((refl, refl), plain-no e)))
 
 pub gilthoren-plain-spec : {M : Type 1} → statement M
 gilthoren-plain-spec =

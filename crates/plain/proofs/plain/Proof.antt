@@ -1,39 +1,37 @@
-use Rattle.plain.proofs.Verdict.{accepted-laid, accepted-labels, accepted-says, refused-says}
-use Rattle.plain.proofs.IsPlain.{says}
-use Rattle.plain.proofs.Counts.{listed, unlisted}
-use Rattle.generation.specs.Answers.{answerSays}
-use Rattle.codegen.specs.Generation.{compiled}
 use mathlib.Core.Path.{sym, ap, _∙_}
+use Rattle.codegen.specs.Generation.{compiled}
+use Rattle.generation.specs.Answers.{answerSays}
+use Rattle.plain.proofs.Counts.{listed, unlisted}
 use borrow.Author.Needs.{needs}
 use Rattle.plain.proofs.plain.Statement.{statement}
 use Rattle.plain.proofs.plain.Tie as tie
 
-conditions-requires : tie.Need-conditions-requires
-conditions-requires c κs =
+plain-accepted-requires : tie.Need-plain-accepted-requires
+plain-accepted-requires c κs =
     let a = c .before .before .before .before .before .args in
-    let t = a .tables .now in
-    let s = a .sheet .now in
-    let l = listed (compiled t s) (sym (ap answerSays (c .enum-told .given .1)) ∙ c .before .before .count .ensures) in
-    (accepted-laid t s (l .0) (l .1), accepted-labels t s (l .0) (l .1))
+    let l = listed (compiled (a .tables .now) (a .sheet .now)) (sym (ap answerSays (c .enum-told .given .1)) ∙ c .before .before .count .ensures) in
+    record { tables = a .tables .now; list = l .0; is = l .1 }
+
+plain-refused-requires : tie.Need-plain-refused-requires
+plain-refused-requires c κs =
+    let a = c .before .before .before .before .before .before .args in
+    let l = unlisted (compiled (a .tables .now) (a .sheet .now)) (sym (ap answerSays (c .before .number .given .1)) ∙ c .before .before .before .count .ensures) in
+    record { tables = a .tables .now; is = l }
 
 returns : tie.Need-returns
 returns c =
     let a = c .before .before .before .before .before .before .args in
-    let t = a .tables .now in
-    let s = a .sheet .now in
-    let l = listed (compiled t s) (sym (ap answerSays (c .before .enum-told .given .1)) ∙ c .before .before .before .count .ensures) in
-    says t s _ (accepted-says t s (l .0) (l .1) _ (c .conditions .ensures))
+    let l = listed (compiled (a .tables .now) (a .sheet .now)) (sym (ap answerSays (c .before .enum-told .given .1)) ∙ c .before .before .before .count .ensures) in
+    c .plain-accepted .ensures (a .tables .now) (l .0) (l .1)
 
 returns-2 : tie.Need-returns-2
 returns-2 c =
     let a = c .before .before .before .before .before .before .before .args in
-    let t = a .tables .now in
-    let s = a .sheet .now in
-    let l = unlisted (compiled t s) (sym (ap answerSays (c .before .before .number .given .1)) ∙ c .before .before .before .before .count .ensures) in
-    rw (c .fault-of .ensures) (says t s _ (refused-says t s l))
+    c .plain-refused .ensures (a .tables .now)
+    (unlisted (compiled (a .tables .now) (a .sheet .now)) (sym (ap answerSays (c .before .before .number .given .1)) ∙ c .before .before .before .before .count .ensures))
 
 pub plain-spec : {M : Type 1} → statement M
 plain-spec =
     tie.close
     (tie.spec
-    (λ c κs. search needs) (λ c. search needs) conditions-requires (λ c. search needs) (λ c κs. search needs) returns returns-2)
+    (λ c κs. search needs) (λ c. search needs) plain-accepted-requires (λ c. search needs) plain-refused-requires returns returns-2)

@@ -1,63 +1,74 @@
+use Prim.Native.Nat.{_-_}
+use mathlib.Core.Path.{sym, ap, _∙_}
 use borrow.Author.Tests.{not-true, not-false}
-use Rattle.machine.specs.Plain.{isPlainInstr}
+use Rattle.cells.specs.Cells.{cellAt}
 use Rattle.ir.specs.declared.Instr.{Instr}
 use Rattle.ir.specs.Function.{functionOf}
-use Rattle.layout.proofs.Walk.{has-header, has-types, has-params, walk-here}
-use Rattle.conditions.proofs.Faults.{Testing, none-tested, label-small, one-tested, fault-found, all-tested}
-use mathlib.Core.Path.{sym, ap, _∙_}
+use Rattle.layout.proofs.Walk.{has-types, has-params}
+use Rattle.machine.specs.Plain.{isPlainInstr}
+use Rattle.conditions.proofs.Counting.{none-counted-yet}
+use Rattle.conditions.proofs.Faults.{Testing, none-tested, label-small, room-left, line-there, one-tested, fault-found, all-tested}
 use native.Mathlib.Omega.{arith}
 use Rattle.conditions.proofs.body.first_fault.Statement.{statement}
 use Rattle.conditions.proofs.body.first_fault.Tie as tie
 
 abbrev Inv-loop : tie.InvT-loop
-Inv-loop sheet counts left₀ cell₀ k₀ left cell k = Testing sheet left cell k
+Inv-loop sheet counts n before₀ left₀ cell₀ k₀ before left cell k = Testing sheet n (cellAt sheet 5 - n) before left cell k
 
 abbrev μ-loop : tie.MeasureT-loop
-μ-loop sheet counts left₀ cell₀ k₀ left cell k = left
-
-cell-at-requires : tie.Need-cell-at-requires Inv-loop μ-loop
-cell-at-requires c κs = omega (arith, has-header (c .before .pre .0))
+μ-loop sheet counts n before₀ left₀ cell₀ k₀ before left cell k = left
 
 body-from-requires : tie.Need-body-from-requires Inv-loop μ-loop
-body-from-requires c κs = has-params (c .before .before .pre .0)
+body-from-requires c κs = has-params (c .before .pre .0)
 
 loop-holds : tie.Need-loop-holds Inv-loop μ-loop
-loop-holds c = rw (c .before .cell-at .ensures, c .body-from .ensures) (none-tested (c .before .before .before .pre .0) (c .before .before .before .pre .1 .1))
+loop-holds c =
+    let p = c .before .before .pre in
+    rw (c .body-from .ensures) (none-tested (p .0) (p .1 .1 .0) (p .1 .1 .1) none-counted-yet)
 
 instr-at-requires : tie.Need-instr-at-requires Inv-loop μ-loop
-instr-at-requires c κs = walk-here _ _ (c .before .loop .inv .walk) (c .loop-test .taken) .0
+instr-at-requires c κs = line-there (c .before .loop .inv) (c .loop-test .taken) .0
 
 is-plain-instr-requires : tie.Need-is-plain-instr-requires Inv-loop μ-loop
 is-plain-instr-requires c κs =
     let p = c .before .before .before .before .before .before .pre in
-    (has-types (p .0), (p .1 .0, rw (c .instr-at .ensures) (label-small (c .before .before .loop .inv) (c .before .loop-test .taken))))
+    (has-types (p .0), (p .1 .0, rw (c .before .instr-at .ensures) (label-small (c .before .before .before .loop .inv) (c .before .before .loop-test .taken))))
 
 returns : tie.Need-returns Inv-loop μ-loop
 returns c =
-    let l = c .before .before .before .before in
-    let F = functionOf (l .before .before .before .before .args .sheet .now) in
-    fault-found (l .loop .inv) (c .before .before .before .loop-test .taken)
-    (sym (c .before .is-plain-instr .ensures ∙ ap (λ (i : Instr). isPlainInstr F i) (c .before .before .instr-at .ensures)) ∙ not-true _ (c .if1 .taken))
+    let l = c .before .before .before .before .before in
+    let F = functionOf (l .before .before .before .args .sheet .now) in
+    let g = l .loop .inv in
+    fault-found g (c .before .before .before .before .loop-test .taken)
+    (sym (c .before .is-plain-instr .ensures (g .before) (g .counted) ∙ ap (λ (i : Instr). isPlainInstr F (g .before) i) (c .before .before .before .instr-at .ensures)) ∙ not-true _ (c .if1 .taken))
+
+count-label-requires : tie.Need-count-label-requires Inv-loop μ-loop
+count-label-requires c κs = room-left (c .before .before .before .before .before .before .loop .inv) (c .before .before .before .before .before .loop-test .taken)
 
 behind-requires : tie.Need-behind-requires Inv-loop μ-loop
-behind-requires c κs = walk-here _ _ (c .before .before .before .before .loop .inv .walk) (c .before .before .before .loop-test .taken) .1
+behind-requires c κs =
+    line-there (c .before .before .before .before .before .before .before .loop .inv) (c .before .before .before .before .before .before .loop-test .taken) .1
 
 sub-left : tie.Need-sub-left Inv-loop μ-loop
-sub-left c = omega (arith, c .before .before .before .before .loop-test .taken)
+sub-left c = omega (arith, c .before .before .before .before .before .before .before .loop-test .taken)
 
 add-k : tie.Need-add-k Inv-loop μ-loop
-add-k c = omega (arith, c .before .before .before .before .before .loop .inv .most)
+add-k c = omega (arith, c .before .before .before .before .before .before .before .before .loop .inv .most)
 
 loop-less : tie.Need-loop-less Inv-loop μ-loop
-loop-less c = omega (arith, c .before .before .before .before .loop-test .taken)
+loop-less c = omega (arith, c .before .before .before .before .before .before .before .loop-test .taken)
 
 loop-again : tie.Need-loop-again Inv-loop μ-loop
 loop-again c =
-    let l = c .before .before .before .before .before in
-    let F = functionOf (l .before .before .before .before .args .sheet .now) in
-    let i = c .before .before .before .instr-at .ensures in
-    let e = sym (c .before .before .is-plain-instr .ensures ∙ ap (λ (i : Instr). isPlainInstr F i) i) ∙ not-false _ (c .before .if1 .left) in
-    rw (c .behind .ensures) (one-tested (l .loop .inv) (c .before .before .before .before .loop-test .taken) e)
+    let l = c .before .before .before .before .before .before .before .before in
+    let F = functionOf (l .before .before .before .args .sheet .now) in
+    let g = l .loop .inv in
+    let i = c .before .before .before .before .before .before .instr-at .ensures in
+    let e =
+    sym (c .before .before .before .before .is-plain-instr .ensures (g .before) (g .counted) ∙ ap (λ (i : Instr). isPlainInstr F (g .before) i) i)
+    ∙ not-false _ (c .before .before .before .if1 .left) in
+    rw (c .behind .ensures, c .before .count-label .ensures, i)
+    (one-tested g (c .before .before .before .before .before .before .before .loop-test .taken) e)
 
 returns-2 : tie.Need-returns-2 Inv-loop μ-loop
 returns-2 c = all-tested (c .before .loop .inv) (c .loop-test .left)
@@ -66,5 +77,5 @@ pub first-fault-spec : {M : Type 1} → statement M
 first-fault-spec =
     tie.close
     (tie.spec
-    Inv-loop μ-loop cell-at-requires body-from-requires loop-holds instr-at-requires is-plain-instr-requires returns behind-requires sub-left add-k
-    loop-less loop-again returns-2)
+    Inv-loop μ-loop body-from-requires loop-holds instr-at-requires is-plain-instr-requires returns count-label-requires behind-requires sub-left
+    add-k loop-less loop-again returns-2)

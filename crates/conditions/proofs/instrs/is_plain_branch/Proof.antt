@@ -1,3 +1,4 @@
+use mathlib.Core.List.{[]}
 use lib.Dec.{leb}
 use Rattle.conditions.proofs.Tests.{two-passed, two-failed, stands-is}
 use Rattle.machine.specs.Plain.{isPlainInstr, isPlainOperand, isBool, labelCount}
@@ -13,7 +14,7 @@ returns c =
     let q = c .before .before .before .before in
     let a = q .args in
     let F = functionOf (a .sheet .now) in
-    c .stands .ensures ∙ stands-is F (a .counts .now) (q .pre .1 .0) (a .l) (q .pre .1 .1)
+    c .stands .ensures ∙ stands-is F [] (a .l) (q .pre .1 .1) (q .pre .1 .0)
     ∙ sym (two-passed (isPlainOperand F (a .x)) (isBool (a .x)) (c .before .before .is-condition .ensures) (c .before .if1 .taken) (leb 1 (labelCount (a .l) (F .body))))
 
 returns-2 : tie.Need-returns-2

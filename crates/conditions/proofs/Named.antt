@@ -1,12 +1,12 @@
--- An accepted function names no label beyond its own, of which there are at most 256.
-use Prim.Native.Nat.{ℕ, suc, _≤_, _<_}
+-- Instructions that have records name no label beyond the function's own, of which there are at most 256.
+use Prim.Native.Nat.{ℕ, zero, suc, _-_, _≤_, _<_}
 use mathlib.Core.Path.{_≡_, refl}
 use mathlib.Core.Bool.{true}
 use mathlib.Core.List.{List, [], _∷_}
 use native.Mathlib.Omega.{arith}
 use borrow.Author.Tests.{ltb-true, lt-ltb}
 use lib.Dec.{ltb}
-use lib.ListN.{drop}
+use lib.ListN.{take, drop}
 use Rattle.ir.specs.declared.«Type».{«Type» as IrType}
 use Rattle.ir.specs.declared.Operand.{Operand}
 use Rattle.ir.specs.declared.Instr.{Instr}
@@ -18,11 +18,12 @@ use Rattle.x86.specs.Registers.{RAX}
 use Rattle.codegen.specs.Context.{Context, labelAt}
 use Rattle.codegen.specs.Utils.{loadOperand}
 use Rattle.codegen.specs.Instructions.{generateLabel, generateJump, generateJmpIfNot}
-use Rattle.codegen.specs.Generation.{accepted, generateInstr, generate}
+use Rattle.codegen.specs.Generation.{accepted, refused, generateInstr, generate}
 use Rattle.codegen.proofs.Results.{Yields, yields, any, bind, weaken, guard}
 use Rattle.machine.specs.Plain.{every}
 use Rattle.machine.proofs.Accepted.{accepted-list}
+use Rattle.machine.proofs.Refused.{refused-at}
 use Rattle.conditions.specs.Parts.{labelOf, areNamed}
 
 label-below : (labels l : ℕ) → Yields (labelAt labels l) (λ k. l < labels)
 unfolding labelAt
@@ -47,11 +48,21 @@ instr-named ctx labels ret (Instr.JumpIfNot x l) args =
 instr-named ctx labels ret (Instr.Return x) args = no-name _
 instr-named ctx labels ret Instr.Comment args = no-name _
 
-all-named : (is : List Line) → ((k : ℕ) (l : Line) (r : List Line) → drop k is ≡ l ∷ r → labelOf (l .instr) < 256) → areNamed is ≡ true
+first-named : (n : ℕ) (is : List Line) → ((k : ℕ) (l : Line) (r : List Line) → k < n → drop k is ≡ l ∷ r → labelOf (l .instr) < 256) → areNamed (take n is) ≡ true
 unfolding areNamed every
-all-named [] f = refl
-all-named (i ∷ is) f = rw (lt-ltb _ _ (f 0 i is refl)) (all-named is (λ k l r e. f (suc k) l r e))
+first-named zero is f = refl
+first-named (suc n) [] f = refl
+first-named (suc n) (i ∷ is) f = rw (lt-ltb _ _ (f 0 i is (omega arith) refl)) (first-named n is (λ k l r h e. f (suc k) l r (omega arith) e))
 
-pub accepted-named : (tables : Tables) (F : Function) (is : List Instruction) → generate tables F ≡ accepted is → F .labels ≤ 256 → areNamed (F .body) ≡ true
-accepted-named tables F is e h =
-    all-named (F .body) (λ k l r d. instr-named _ (F .labels) (F .ret) (l .instr) (l .args) .of _ (accepted-list tables F is e .0 .lines k l r d) h)
+module _ (tables : Tables) (F : Function) (few : F .labels ≤ 256) where
+  pub accepted-named : (is : List Instruction) → generate tables F ≡ accepted is → (n : ℕ) → areNamed (take n (F .body)) ≡ true
+  accepted-named is e n =
+      first-named n (F .body) (λ k l r h d.
+      instr-named _ (F .labels) (F .ret) (l .instr) (l .args) .of _ (accepted-list tables F is e .0 .lines k l r d) few)
+
+  -- before the place of a refusal
+  pub refused-named : (n place : ℕ) → generate tables F ≡ refused n place → areNamed (take (place - 1) (F .body)) ≡ true
+  refused-named n place e =
+      first-named (place - 1) (F .body) (λ k l r h d.
+      let (is, q) = refused-at tables F n place e .lines k l r (omega arith) d in
+      instr-named _ (F .labels) (F .ret) (l .instr) (l .args) .of is q few)
