@@ -1,4 +1,5 @@
 pub mod Results
+pub mod Lowers
 pub mod Shapes
 pub mod Refusals
 pub mod Codes

@@ -1,5 +1,5 @@
 -- The records of one instruction are few, and the last of them is Ret exactly where the instruction is a Return.
-use Prim.Native.Nat.{ℕ, suc, _+_, _-_, _<_, _≤_}
+use Prim.Native.Nat.{ℕ, suc, _+_, _<_, _≤_}
 use mathlib.Core.Path.{_≡_, refl, _∙_}
 use mathlib.Core.Bool.{Bool, true, false, cond, not, _&&_}
 use mathlib.Core.List.{List, [], _∷_, _++_}
@@ -13,8 +13,8 @@ use Rattle.ir.specs.declared.Operand.{Operand as IrOp}
 use Rattle.ir.specs.declared.UnaryOp.{UnaryOp as IrUnary}
 use Rattle.ir.specs.declared.Dest.{Dest}
 use Rattle.ir.specs.declared.Instr.{Instr}
-use Rattle.ir.specs.Types.{_>>=_, typeSize, isFloat, isUnsigned}
-use Rattle.ir.specs.Function.{BinaryOp, binaryOp}
+use Rattle.ir.specs.Types.{isFloat}
+use Rattle.ir.specs.Function.{BinaryOp}
 use Rattle.x86.specs.declared.register.Register.{Register}
 use Rattle.x86.specs.declared.enums.Size.{Size}
 use Rattle.x86.specs.declared.enums.Operand.{Operand}
@@ -22,16 +22,16 @@ use Rattle.x86.specs.declared.enums.BinOp.{BinOp}
 use Rattle.x86.specs.declared.enums.ConditionCode.{ConditionCode}
 use Rattle.x86.specs.declared.enums.CtrlOp.{CtrlOp}
 use Rattle.x86.specs.declared.enums.ExtendOp.{ExtendOp}
-use Rattle.x86.specs.declared.enums.ConvOp.{ConvOp}
 use Rattle.x86.specs.declared.enums.Instruction.{Instruction}
-use Rattle.x86.specs.Registers.{xmm, RAX, RCX, RDX}
+use Rattle.x86.specs.Registers.{xmm, RAX}
 use Rattle.x86.specs.Records.{conditionCode}
-use Rattle.codegen.specs.Context.{Context, labelAt}
-use Rattle.codegen.specs.Utils.{sizeFrom, varSize, convertVar, convertOperand, loadOperand}
-use Rattle.codegen.specs.Instructions.{move, operandKind, isCopy, Source, source, widened, converted, extended, castOperand, castBetween, generateReturn, generateCopy, generateCast, generateZero, paramRegs, paramFregs, floating, loadArgument, loadArguments, storeResult, generateCall, generateJmpIfNot, generateLabel, generateJump}
-use Rattle.codegen.specs.Arithmetic.{simpleOperation, floatOperation, twoLoads, dividing, division, multiplication, shift, parity, ordered, isSwapped, floatCode, unsignedCode, compared, floatComparison, comparison, floatBinary, integerBinary, generateBinary, unaryRecords, generateUnary}
+use Rattle.codegen.specs.Context.{Context}
+use Rattle.codegen.specs.Utils.{varSize, convertVar, convertOperand, loadOperand}
+use Rattle.codegen.specs.Instructions.{move, Source, source, widened, castOperand, paramRegs, paramFregs, floating, loadArgument, loadArguments, storeResult, generateCall}
+use Rattle.codegen.specs.Arithmetic.{dividing, parity, ordered, unaryRecords}
 use Rattle.codegen.specs.Generation.{generateInstr, isRet, endsInRet}
-use Rattle.codegen.proofs.Results.{Yields, yields, refuses, any, bind, weaken, choose, guard}
+use Rattle.codegen.proofs.Results.{Yields, yields, any, bind, weaken, choose, guard, implies, values}
+use Rattle.codegen.proofs.Lowers.{copies, Converts, conversion, extension, Works, quotient, remainder, product, shifted, Sides, words, floats, swapped, Operates, one-load, two-loads, compares, Lowers, copied, unary, binary, cast-copied, cast, zeroed, called, labelled, jump, branch, returned, comment, lowers}
 
 -- ---- lists
 
@@ -80,19 +80,11 @@ part : (n : ℕ) (xs : List Instruction) (i : Instruction) → length xs < n →
 unfolding endsInRet
 part n xs i h e = record { few = rw length-append (omega arith); last = ends-last xs i [] ∙ e }
 
--- ---- instructions.rs
+-- .. at most so many
+wider : {n : ℕ} {ret : Bool} {is : List Instruction} (k : ℕ) → Part n ret is → n ≤ k → Part k ret is
+wider k p h = record { few = omega (arith, p .few); last = p .last }
 
-return-part : (ctx : Context) (ret : IrType) (op : IrOp) → Yields (generateReturn ctx ret op) (Part 17 true)
-unfolding generateReturn endsInRet
-return-part ctx ret op = bind (any (loadOperand ctx (cond (isFloat ret) (xmm 0) RAX) op Size.NoSize)) (λ load p. yields (record { few = lit≤ tt; last = refl }))
-
-copy-part : (ctx : Context) (dest : VarId) (src : IrOp) → Yields (generateCopy ctx dest src) (Part 17 false)
-unfolding generateCopy endsInRet
-copy-part ctx dest src =
-    bind (any (convertVar ctx dest)) (λ var p.
-    bind (any (varSize dest)) (λ size q.
-    bind (any (loadOperand ctx RAX src size)) (λ load r.
-    yields (record { few = lit≤ tt; last = refl }))))
+-- ---- casts
 
 -- a cast's source takes at most two records
 abbrev pub Brief : ℕ → Source → Type 0
@@ -117,44 +109,15 @@ widened-brief float s h = go (not float && eqb (s .size) 1)
     go true = rw length-append (omega arith)
     go false = omega arith
 
-converted-part : (ctx : Context) (dest : VarId) (s : Source) (op : ConvOp) (reg : Register) (size : Size) → Brief 2 s →
-    Yields (converted ctx dest s op reg size) (Part 17 false)
+extended-part : (s : Source) (var : Operand) (size : Size) (b : Bool) → Brief 2 s →
+    Part 7 false (s .records ++ cond b [] (Instruction.Extend ExtendOp.Movsxd RAX (s .operand) Size.U32 Size.U64 ∷ []) ++ move var (Operand.Reg RAX) size ∷ [])
+extended-part s var size true h = part 7 (s .records ++ []) (move var (Operand.Reg RAX) size) (rw length-append (omega arith)) refl
+extended-part s var size false h = part 7 (s .records ++ _ ∷ []) (move var (Operand.Reg RAX) size) (rw length-append (omega arith)) refl
+
+cast-part : {ctx : Context} {d : VarId} {s : Source} {n : ℕ} {a b : Bool} {is : List Instruction} → Brief 2 s → Converts ctx d s n a b is → Part 7 false is
 unfolding endsInRet
-converted-part ctx dest s op reg size h =
-    bind (any (convertVar ctx dest)) (λ var p.
-    bind (any (varSize dest)) (λ stored q.
-    yields (record { few = rw length-append (omega arith); last = ends-last (s .records) _ _ })))
-
-extended-part : (ctx : Context) (dest : VarId) (s : Source) → Brief 2 s → Yields (extended ctx dest s) (Part 17 false)
-unfolding endsInRet
-extended-part ctx dest s h = bind (any (convertVar ctx dest)) (λ var p. bind (any (varSize dest)) (λ size q. yields (go var size (eqb (s .size) 8))))
-  where
-    go : (var : Operand) (size : Size) (b : Bool) →
-        Part 17 false (s .records ++ cond b [] (Instruction.Extend ExtendOp.Movsxd RAX (s .operand) Size.U32 Size.U64 ∷ []) ++ move var (Operand.Reg RAX) size ∷ [])
-    go var size true = part 17 (s .records ++ []) (move var (Operand.Reg RAX) size) (rw length-append (omega arith)) refl
-    go var size false = part 17 (s .records ++ _ ∷ []) (move var (Operand.Reg RAX) size) (rw length-append (omega arith)) refl
-
-between-part : (ctx : Context) (dest : VarId) (s : Source) (a b : Bool) (n : ℕ) → Brief 2 s → Yields (castBetween ctx dest s a b n) (Part 17 false)
-unfolding castBetween
-between-part ctx dest s true true n h = converted-part ctx dest s (cond (eqb n 8) ConvOp.Cvtss2sd ConvOp.Cvtsd2ss) (xmm 0) Size.NoSize h
-between-part ctx dest s false true n h =
-    bind (any (sizeFrom (s .size))) (λ size p. converted-part ctx dest s (cond (eqb n 8) ConvOp.Cvtsi2sd ConvOp.Cvtsi2ss) (xmm 0) size h)
-between-part ctx dest s true false n h =
-    bind (any (varSize dest)) (λ size p. converted-part ctx dest s (cond (eqb (s .size) 8) ConvOp.Cvttsd2si ConvOp.Cvttss2si) RAX size h)
-between-part ctx dest s false false n h = extended-part ctx dest s h
-
-cast-part : (ctx : Context) (dest : VarId) (src : IrOp) → Yields (generateCast ctx dest src) (Part 17 false)
-unfolding generateCast
-cast-part ctx dest src =
-    bind (any (operandKind ctx src)) (λ k p.
-    bind (any (typeSize (dest .ty))) (λ n q.
-    choose (isCopy k (isFloat (dest .ty)) n) (λ e. copy-part ctx dest src)
-    (λ e. bind (source-brief ctx src (k .size)) (λ s h. between-part ctx dest (widened (k .float) s) (k .float) (isFloat (dest .ty)) n (widened-brief (k .float) s h)))))
-
-zero-part : (ctx : Context) (dest : VarId) → Yields (generateZero ctx dest) (Part 17 false)
-unfolding generateZero endsInRet
-zero-part ctx dest =
-    bind (any (typeSize (dest .ty))) (λ n p. bind (any (convertVar ctx dest)) (λ var q. yields (record { few = lit≤ tt; last = refl })))
+cast-part {s = s} h (conversion c p q) = record { few = rw length-append (omega arith); last = ends-last (s .records) _ _ }
+cast-part {s = s} h (extension {z} {var} p q) = extended-part s var z (eqb (s .size) 8) h
 
 -- ---- calls
 
@@ -200,58 +163,17 @@ call-part ctx dest symbol args =
     behind loads store p q =
         record { few = rw length-append (omega (arith, q .few)); last = ends-last loads call store ∙ last-of store (q .last) }
 
--- ---- jumps
+-- ---- operations of two sides
 
-jump-if-not-part : (ctx : Context) (labels : ℕ) (x : IrOp) (l : ℕ) → Yields (generateJmpIfNot ctx labels x l) (Part 17 false)
-unfolding generateJmpIfNot endsInRet
-jump-if-not-part ctx labels x l =
-    bind (any (loadOperand ctx RAX x Size.U8)) (λ load p. bind (any (labelAt labels l)) (λ k q. yields (record { few = lit≤ tt; last = refl })))
+dividing-few : (unsigned : Bool) (z : Size) → length (dividing unsigned z) ≤ 2
+dividing-few true z = lit≤ tt
+dividing-few false z = lit≤ tt
 
-label-part : (labels l : ℕ) → Yields (generateLabel labels l) (Part 17 false)
-unfolding generateLabel endsInRet
-label-part labels l = bind (any (labelAt labels l)) (λ k p. yields (record { few = lit≤ tt; last = refl }))
-
-jump-part : (labels l : ℕ) → Yields (generateJump labels l) (Part 17 false)
-unfolding generateJump endsInRet
-jump-part labels l = bind (any (labelAt labels l)) (λ k p. yields (record { few = lit≤ tt; last = refl }))
-
--- ---- arithmetic.rs
-
-simple-part : (ctx : Context) (dest : VarId) (left right : IrOp) (op : BinOp) → Yields (simpleOperation ctx dest left right op) (Part 17 false)
-unfolding simpleOperation endsInRet
-simple-part ctx dest left right op =
-    bind (any (varSize dest)) (λ size p.
-    bind (any (loadOperand ctx RAX left size)) (λ load q.
-    bind (any (convertOperand ctx right)) (λ src r.
-    bind (any (convertVar ctx dest)) (λ var t.
-    yields (record { few = lit≤ tt; last = refl })))))
-
-float-part : (ctx : Context) (dest : VarId) (left right : IrOp) (op : BinOp) → Yields (floatOperation ctx dest left right op) (Part 17 false)
-unfolding floatOperation endsInRet
-float-part ctx dest left right op =
-    bind (any (varSize dest)) (λ size p.
-    bind (any (loadOperand ctx (xmm 0) left size)) (λ load q.
-    bind (any (convertOperand ctx right)) (λ src r.
-    bind (any (convertVar ctx dest)) (λ var t.
-    yields (record { few = lit≤ tt; last = refl })))))
-
-loads-part : (ctx : Context) (dest : VarId) (left right : IrOp) (operation : Size → List Instruction) (result : Register) →
-    ((z : Size) → length (operation z) ≤ 2) → Yields (twoLoads ctx dest left right operation result) (Part 17 false)
-unfolding twoLoads
-loads-part ctx dest left right operation result h =
-    bind (any (varSize dest)) (λ size p.
-    bind (any (loadOperand ctx RAX left size)) (λ a q.
-    bind (any (loadOperand ctx RCX right size)) (λ b r.
-    bind (any (convertVar ctx dest)) (λ var t.
-    yields (part 17 (a ∷ b ∷ operation size) (move var (Operand.Reg result) size) (omega (arith, h size)) refl)))))
-
-division-part : (ctx : Context) (dest : VarId) (left right : IrOp) (result : Register) → Yields (division ctx dest left right result) (Part 17 false)
-unfolding division
-division-part ctx dest left right result = loads-part ctx dest left right (dividing (isUnsigned (dest .ty))) result (few (isUnsigned (dest .ty)))
-  where
-    few : (b : Bool) (z : Size) → length (dividing b z) ≤ 2
-    few true z = lit≤ tt
-    few false z = lit≤ tt
+works-few : {z : Size} {work : List Instruction} {r : Register} → Works z work r → length work ≤ 2
+works-few {z} (quotient unsigned) = dividing-few unsigned z
+works-few {z} (remainder unsigned) = dividing-few unsigned z
+works-few product = lit≤ tt
+works-few (shifted op) = lit≤ tt
 
 ordered-few : (cc : ConditionCode) → length (ordered cc) ≤ 2
 ordered-few cc = go (eqb (conditionCode cc) 0) (eqb (conditionCode cc) 1)
@@ -261,72 +183,18 @@ ordered-few cc = go (eqb (conditionCode cc) 0) (eqb (conditionCode cc) 1)
     go false true = lit≤ tt
     go false false = lit≤ tt
 
-compared-part : (ctx : Context) (dest : VarId) (a : Register) (left : IrOp) (b : Register) (right : IrOp) (size : Size) (op : BinOp) (cc : ConditionCode)
-    (more : List Instruction) → length more ≤ 2 → Yields (compared ctx dest a left b right size op cc more) (Part 17 false)
-unfolding compared
-compared-part ctx dest a left b right size op cc more h =
-    bind (any (loadOperand ctx a left size)) (λ x p.
-    bind (any (loadOperand ctx b right size)) (λ y q.
-    bind (any (convertVar ctx dest)) (λ var r.
-    bind (any (varSize dest)) (λ stored t.
-    yields (part 17 (x ∷ y ∷ _ ∷ _ ∷ more) (move var (Operand.Reg RAX) stored) (omega arith) refl)))))
+sides-few : {x y l r : IrOp} {a b : Register} {more : List Instruction} → Sides x y a l b r more → length more ≤ 2
+sides-few words = lit≤ tt
+sides-few (floats cc) = ordered-few cc
+sides-few swapped = lit≤ tt
 
-comparison-part : (ctx : Context) (dest : VarId) (left right : IrOp) (cc : ConditionCode) → Yields (comparison ctx dest left right cc) (Part 17 false)
-unfolding comparison floatComparison
-comparison-part ctx dest left right cc =
-    bind (any (operandKind ctx left)) (λ k p.
-    bind (any (sizeFrom (k .size))) (λ size q.
-    choose (k .float)
-    (λ e.
-    choose (isSwapped cc) (λ e. compared-part ctx dest (xmm 0) right (xmm 1) left size BinOp.UcomiF (floatCode cc) [] (lit≤ tt))
-    (λ e. compared-part ctx dest (xmm 0) left (xmm 1) right size BinOp.UcomiF (floatCode cc) (ordered cc) (ordered-few cc)))
-    (λ e. compared-part ctx dest RAX left RCX right size BinOp.Cmp (cond (k .unsigned) (unsignedCode cc) cc) [] (lit≤ tt))))
+binary-part : {ctx : Context} {d : VarId} {op : BinaryOp} {x y : IrOp} {is : List Instruction} → Operates ctx d op x y is → Part 7 false is
+unfolding endsInRet
+binary-part (one-load k float h p q r t) = record { few = lit≤ tt; last = refl }
+binary-part (two-loads {work = work} k h p q r w t) = part 7 (_ ∷ _ ∷ work) _ (omega (arith, works-few w)) refl
+binary-part (compares {more = more} k h p q s r t u v) = part 7 (_ ∷ _ ∷ _ ∷ _ ∷ more) _ (omega (arith, sides-few s)) refl
 
-float-binary-part : (ctx : Context) (dest : VarId) (op : BinaryOp) (left right : IrOp) → Yields (floatBinary ctx dest op left right) (Part 17 false)
-float-binary-part ctx dest BinaryOp.Or left right = refuses 7
-float-binary-part ctx dest BinaryOp.And left right = refuses 7
-float-binary-part ctx dest BinaryOp.BitOr left right = refuses 7
-float-binary-part ctx dest BinaryOp.BitXor left right = refuses 7
-float-binary-part ctx dest BinaryOp.BitAnd left right = refuses 7
-float-binary-part ctx dest BinaryOp.Eq left right = refuses 7
-float-binary-part ctx dest BinaryOp.NotEq left right = refuses 7
-float-binary-part ctx dest BinaryOp.Lt left right = refuses 7
-float-binary-part ctx dest BinaryOp.Le left right = refuses 7
-float-binary-part ctx dest BinaryOp.Gt left right = refuses 7
-float-binary-part ctx dest BinaryOp.Ge left right = refuses 7
-float-binary-part ctx dest BinaryOp.Shl left right = refuses 7
-float-binary-part ctx dest BinaryOp.Shr left right = refuses 7
-float-binary-part ctx dest BinaryOp.Add left right = float-part ctx dest left right BinOp.AddF
-float-binary-part ctx dest BinaryOp.Sub left right = float-part ctx dest left right BinOp.SubF
-float-binary-part ctx dest BinaryOp.Mul left right = float-part ctx dest left right BinOp.MulF
-float-binary-part ctx dest BinaryOp.Div left right = float-part ctx dest left right BinOp.DivF
-float-binary-part ctx dest BinaryOp.Rem left right = refuses 7
-
-integer-binary-part : (ctx : Context) (dest : VarId) (op : BinaryOp) (left right : IrOp) → Yields (integerBinary ctx dest op left right) (Part 17 false)
-unfolding multiplication shift
-integer-binary-part ctx dest BinaryOp.Or left right = refuses 7
-integer-binary-part ctx dest BinaryOp.And left right = refuses 7
-integer-binary-part ctx dest BinaryOp.BitOr left right = simple-part ctx dest left right BinOp.Or
-integer-binary-part ctx dest BinaryOp.BitXor left right = simple-part ctx dest left right BinOp.Xor
-integer-binary-part ctx dest BinaryOp.BitAnd left right = simple-part ctx dest left right BinOp.And
-integer-binary-part ctx dest BinaryOp.Eq left right = comparison-part ctx dest left right ConditionCode.E
-integer-binary-part ctx dest BinaryOp.NotEq left right = comparison-part ctx dest left right ConditionCode.NE
-integer-binary-part ctx dest BinaryOp.Lt left right = comparison-part ctx dest left right ConditionCode.L
-integer-binary-part ctx dest BinaryOp.Le left right = comparison-part ctx dest left right ConditionCode.LE
-integer-binary-part ctx dest BinaryOp.Gt left right = comparison-part ctx dest left right ConditionCode.G
-integer-binary-part ctx dest BinaryOp.Ge left right = comparison-part ctx dest left right ConditionCode.GE
-integer-binary-part ctx dest BinaryOp.Shl left right = loads-part ctx dest left right _ RAX (λ z. lit≤ tt)
-integer-binary-part ctx dest BinaryOp.Shr left right = loads-part ctx dest left right _ RAX (λ z. lit≤ tt)
-integer-binary-part ctx dest BinaryOp.Add left right = simple-part ctx dest left right BinOp.Add
-integer-binary-part ctx dest BinaryOp.Sub left right = simple-part ctx dest left right BinOp.Sub
-integer-binary-part ctx dest BinaryOp.Mul left right = loads-part ctx dest left right _ RAX (λ z. lit≤ tt)
-integer-binary-part ctx dest BinaryOp.Div left right = division-part ctx dest left right RAX
-integer-binary-part ctx dest BinaryOp.Rem left right = division-part ctx dest left right RDX
-
-binary-part : (ctx : Context) (dest : VarId) (op : BinaryOp) (left right : IrOp) → Yields (generateBinary ctx dest op left right) (Part 17 false)
-unfolding generateBinary
-binary-part ctx dest op left right =
-    choose (isFloat (dest .ty)) (λ e. float-binary-part ctx dest op left right) (λ e. integer-binary-part ctx dest op left right)
+-- ---- every instruction
 
 unary-few : (op : IrUnary) (float : Bool) (size : Size) → length (unaryRecords op float size) ≤ 2
 unary-few IrUnary.Neg true size = lit≤ tt
@@ -334,27 +202,20 @@ unary-few IrUnary.Neg false size = lit≤ tt
 unary-few IrUnary.BitNot float size = lit≤ tt
 unary-few IrUnary.Not float size = lit≤ tt
 
-unary-part : (ctx : Context) (dest : VarId) (op : IrUnary) (src : IrOp) → Yields (generateUnary ctx dest op src) (Part 17 false)
-unfolding generateUnary
-unary-part ctx dest op src =
-    bind (any (varSize dest)) (λ size p.
-    bind (any (loadOperand ctx RAX src size)) (λ load q.
-    bind (any (convertVar ctx dest)) (λ var r.
-    yields
-    (part 17 (load ∷ unaryRecords op (isFloat (dest .ty)) size) (move var (Operand.Reg RAX) size) (omega (arith, unary-few op (isFloat (dest .ty)) size)) refl))))
-
--- ---- every instruction
+lowers-part : {ctx : Context} {labels : ℕ} {ret : IrType} {i : Instr} {args : List IrOp} {is : List Instruction} → Lowers ctx labels ret i args is → Part 17 (isReturn i) is
+unfolding endsInRet
+lowers-part (copied (copies p q r)) = record { few = omega arith; last = refl }
+lowers-part (unary {d} {op} {z = z} p q r) = part 17 (_ ∷ unaryRecords op (isFloat (d .ty)) z) _ (omega (arith, unary-few op (isFloat (d .ty)) z)) refl
+lowers-part (binary h) = wider 17 (binary-part h) (omega arith)
+lowers-part (cast-copied p q e (copies r t u)) = record { few = omega arith; last = refl }
+lowers-part {ctx} (cast {x = x} {k = k} {s = s} p q e r h) = wider 17 (cast-part (widened-brief (k .float) s (source-brief ctx x (k .size) .of s r)) h) (omega arith)
+lowers-part (zeroed p q) = record { few = omega arith; last = refl }
+lowers-part {ctx} (called {d} {f} {args = args} {b} e) = call-part ctx d f args .of b e
+lowers-part (labelled p) = record { few = omega arith; last = refl }
+lowers-part (jump p) = record { few = omega arith; last = refl }
+lowers-part (branch p q) = record { few = omega arith; last = refl }
+lowers-part (returned p) = record { few = omega arith; last = refl }
+lowers-part comment = record { few = omega arith; last = refl }
 
 pub instr-part : (ctx : Context) (labels : ℕ) (ret : IrType) (i : Instr) (args : List IrOp) → Yields (generateInstr ctx labels ret i args) (Part 17 (isReturn i))
-unfolding generateInstr endsInRet
-instr-part ctx labels ret (Instr.Copy dest src) args = copy-part ctx dest src
-instr-part ctx labels ret (Instr.Unary dest op src) args = unary-part ctx dest op src
-instr-part ctx labels ret (Instr.Binary dest op left right) args = binary-part ctx dest (binaryOp op) left right
-instr-part ctx labels ret (Instr.Cast dest src) args = cast-part ctx dest src
-instr-part ctx labels ret (Instr.Zero dest) args = zero-part ctx dest
-instr-part ctx labels ret (Instr.Call dest symbol count) args = call-part ctx dest symbol args
-instr-part ctx labels ret (Instr.Label l) args = label-part labels l
-instr-part ctx labels ret (Instr.Jump l) args = jump-part labels l
-instr-part ctx labels ret (Instr.JumpIfNot condition target) args = jump-if-not-part ctx labels condition target
-instr-part ctx labels ret (Instr.Return op) args = return-part ctx ret op
-instr-part ctx labels ret Instr.Comment args = yields (record { few = lit≤ tt; last = refl })
+instr-part ctx labels ret i args = values (implies (lowers ctx labels ret i args) (λ is h. lowers-part h))

@@ -15,8 +15,8 @@ use Rattle.ir.specs.declared.Operand.{Operand as IrOp}
 use Rattle.ir.specs.declared.UnaryOp.{UnaryOp as IrUnary}
 use Rattle.ir.specs.declared.Dest.{Dest}
 use Rattle.ir.specs.declared.Instr.{Instr}
-use Rattle.ir.specs.Types.{bytes, typeSize, elementWidth, elementSize, isScalar, isFloat, isUnsigned, operandSize, elfSize}
-use Rattle.ir.specs.Function.{Tables, BinaryOp, binaryOp}
+use Rattle.ir.specs.Types.{ok, bytes, typeSize, elementWidth, elementSize, isScalar, isFloat, operandSize, elfSize}
+use Rattle.ir.specs.Function.{Tables, BinaryOp}
 use Rattle.x86.specs.declared.register.Register.{Register}
 use Rattle.x86.specs.declared.enums.Size.{Size}
 use Rattle.x86.specs.declared.enums.Operand.{Operand}
@@ -27,14 +27,17 @@ use Rattle.x86.specs.declared.enums.ConvOp.{ConvOp}
 use Rattle.x86.specs.declared.enums.CtrlOp.{CtrlOp}
 use Rattle.x86.specs.declared.enums.ExtendOp.{ExtendOp}
 use Rattle.x86.specs.declared.enums.ConditionCode.{ConditionCode}
+use Rattle.x86.specs.declared.enums.Prefix.{Prefix}
+use Rattle.x86.specs.declared.enums.StringOp.{StringOp}
 use Rattle.x86.specs.declared.enums.Instruction.{Instruction}
-use Rattle.x86.specs.Registers.{number, RAX, RCX, RDX, xmm, rbpPlus, ripString, ripFloat}
+use Rattle.x86.specs.Registers.{number, RAX, RCX, RDX, RDI, xmm, rbpPlus, ripString, ripFloat}
 use Rattle.x86.specs.Records.{conditionCode}
 use Rattle.x86.specs.Decode.{FitsRegister}
 use Rattle.codegen.specs.Context.{Context, stringAt, floatAt, floatShort, labelAt}
 use Rattle.codegen.specs.Utils.{sizeFrom, varSize, convertVar, convertOperand, sizeOr, ownSize, loadFrom, loadString, loadValue, loadOperand}
-use Rattle.codegen.specs.Instructions.{move, Kind, Source, source, operandKind, paramRegs, paramFregs, funcEpilogue, floating, generateReturn, generateCopy, castOperand, widened, converted, extended, castBetween, isCopy, generateCast, generateZero, loadArgument, loadArguments, storeResult, generateCall, generateJmpIfNot, generateLabel, generateJump}
-use Rattle.codegen.specs.Arithmetic.{simpleOperation, floatOperation, twoLoads, dividing, division, multiplication, shift, isSwapped, floatCode, parity, ordered, compared, floatComparison, comparison, floatBinary, integerBinary, generateBinary, signBit, unaryRecords, generateUnary}
+use Rattle.codegen.specs.Instructions.{move, Kind, Source, source, operandKind, paramRegs, paramFregs, funcEpilogue, floating, castOperand, widened, isCopy, generateZero, loadArgument, loadArguments, storeResult, generateCall, generateLabel}
+use Rattle.codegen.specs.Arithmetic.{dividing, parity, ordered, signBit, unaryRecords}
+use Rattle.codegen.specs.Frame.{storeOf}
 use Rattle.codegen.specs.Generation.{generateInstr}
 use Rattle.machine.specs.Word.{W}
 use Rattle.machine.specs.Encodings.{bytes as span}
@@ -45,7 +48,8 @@ use Rattle.machine.specs.Calls.{Taking, Naming, convertedBytes, passedBy
 use Rattle.ir.proofs.Rest.{few-bytes}
 use Rattle.machine.proofs.Tests.{both, every-at, each-or}
 use Rattle.machine.proofs.Frame.{contextWith, At, var-at}
-use Rattle.codegen.proofs.Results.{Yields, yields, refuses, any, bind, weaken, choose, guard}
+use Rattle.codegen.proofs.Results.{Yields, yields, refuses, bind, weaken, choose, guard, implies, values}
+use Rattle.codegen.proofs.Lowers.{Copies, copies, working, Conversion, between-floats, to-float, from-float, Converts, conversion, extension, calculations, comparisons, Works, quotient, remainder, product, shifted, Sides, words, floats, swapped, Operates, one-load, two-loads, compares, Lowers, copied, unary, binary, cast-copied, cast, zeroed, called, labelled, jump, branch, returned, comment, lowers}
 use Rattle.machine.proofs.Run.{All, all-append, all-map}
 use Rattle.machine.proofs.Sound.{Sound, SoundOperand, Given, Usable, tame, isCall, either, slot-sound, into-register, into-slot, extends, load-sound}
 
@@ -107,25 +111,32 @@ pub data Loading (tables : Tables) (vars : List IrType) : ℕ → ℕ → List I
   a-float : {i f : ℕ} {x : IrOp} {xs : List IrOp} {load : Instruction} {rest : List Instruction} → floating x ≡ true → f < 8
       → Loaded tables vars (getD paramFregs f RAX) x load → Loading tables vars i (suc f) xs rest → Loading tables vars i f (x ∷ xs) (load ∷ rest)
 
--- an operand that is a variable is named, by n bytes at least
+-- what holds of an operand that is a variable
+abbrev pub OfVar : (VarId → Type 0) → IrOp → Type 0
+OfVar P (IrOp.Var v) = P v
+OfVar P (IrOp.Int k short unsigned) = Unit {0}
+OfVar P (IrOp.Float k) = Unit {0}
+OfVar P (IrOp.Bool b) = Unit {0}
+OfVar P (IrOp.Address v) = Unit {0}
+OfVar P (IrOp.DataAddress k) = Unit {0}
+OfVar P IrOp.Null = Unit {0}
+
+of-var : (P : VarId → Type 0) (x : IrOp) → ((v : VarId) → x ≡ IrOp.Var v → P v) → OfVar P x
+of-var P (IrOp.Var v) f = f v refl
+of-var P (IrOp.Int k short unsigned) f = tt
+of-var P (IrOp.Float k) f = tt
+of-var P (IrOp.Bool b) f = tt
+of-var P (IrOp.Address v) f = tt
+of-var P (IrOp.DataAddress k) f = tt
+of-var P IrOp.Null f = tt
+
+-- it is named, by n bytes at least
 abbrev pub GivenOperand : Taking → ℕ → IrOp → Type 0
-GivenOperand N n (IrOp.Var v) = Given N n v
-GivenOperand N n (IrOp.Int k short unsigned) = Unit {0}
-GivenOperand N n (IrOp.Float k) = Unit {0}
-GivenOperand N n (IrOp.Bool b) = Unit {0}
-GivenOperand N n (IrOp.Address v) = Unit {0}
-GivenOperand N n (IrOp.DataAddress k) = Unit {0}
-GivenOperand N n IrOp.Null = Unit {0}
+GivenOperand N n = OfVar (Given N n)
 
 -- .. by the bytes that are passed
 abbrev pub GivenArgument : Taking → IrOp → Type 0
-GivenArgument N (IrOp.Var v) = Given N (passedBytes (v .ty)) v
-GivenArgument N (IrOp.Int k short unsigned) = Unit {0}
-GivenArgument N (IrOp.Float k) = Unit {0}
-GivenArgument N (IrOp.Bool b) = Unit {0}
-GivenArgument N (IrOp.Address v) = Unit {0}
-GivenArgument N (IrOp.DataAddress k) = Unit {0}
-GivenArgument N IrOp.Null = Unit {0}
+GivenArgument N = OfVar (λ v. Given N (passedBytes (v .ty)) v)
 
 abbrev pub GivenArguments : Taking → List IrOp → Type 0
 GivenArguments N [] = Unit {0}
@@ -292,23 +303,14 @@ own-cast ty = go (isScalar ty)
 
 -- what is known of an operand's kind, if it is a variable
 abbrev KindOf : IrOp → Kind → Type 0
-KindOf (IrOp.Var u) k = (k .size ≡ bytes (u .ty)) × (k .float ≡ isFloat (u .ty)) × (eqb (elementWidth (u .ty .code)) 0 ≡ false)
-KindOf (IrOp.Int n short unsigned) k = Unit {0}
-KindOf (IrOp.Float n) k = Unit {0}
-KindOf (IrOp.Bool b) k = Unit {0}
-KindOf (IrOp.Address v) k = Unit {0}
-KindOf (IrOp.DataAddress n) k = Unit {0}
-KindOf IrOp.Null k = Unit {0}
+KindOf x k = OfVar (λ u. (k .size ≡ bytes (u .ty)) × (k .float ≡ isFloat (u .ty)) × (eqb (elementWidth (u .ty .code)) 0 ≡ false)) x
 
 kind-of : (ctx : Context) (x : IrOp) → Yields (operandKind ctx x) (KindOf x)
 unfolding operandKind
-kind-of ctx (IrOp.Var u) = bind (type-size-is (u .ty)) (λ n e. yields (e .0, refl, e .1))
-kind-of ctx (IrOp.Int n short unsigned) = weaken (any (operandKind ctx (IrOp.Int n short unsigned))) (λ k e. tt)
-kind-of ctx (IrOp.Float n) = weaken (any (operandKind ctx (IrOp.Float n))) (λ k e. tt)
-kind-of ctx (IrOp.Bool b) = weaken (any (operandKind ctx (IrOp.Bool b))) (λ k e. tt)
-kind-of ctx (IrOp.Address v) = weaken (any (operandKind ctx (IrOp.Address v))) (λ k e. tt)
-kind-of ctx (IrOp.DataAddress n) = weaken (any (operandKind ctx (IrOp.DataAddress n))) (λ k e. tt)
-kind-of ctx IrOp.Null = weaken (any (operandKind ctx IrOp.Null)) (λ k e. tt)
+kind-of ctx x = record { of = λ k e. of-var _ x (λ u i. variable u .of k (rw i at e)) }
+  where
+    variable : (u : VarId) → Yields (operandKind ctx (IrOp.Var u)) (KindOf (IrOp.Var u))
+    variable u = bind (type-size-is (u .ty)) (λ n e. yields (e .0, refl, e .1))
 
 scalar-bytes : (ty : IrType) → isScalar ty ≡ true → bytes ty ≡ elementWidth (ty .code)
 unfolding bytes
@@ -354,6 +356,29 @@ cast-few u d w e g = go (isFloat u) (isFloat d) refl refl e g
     go false true p q e g = own-cast u
     go false false p q e g = whole-numbers (isScalar u) refl g
 
+-- one of two conversions
+by-op : (b : Bool) (p q : ConvOp) (m k : ℕ) → (b ≡ true → convertedBytes p m ≡ k) → (b ≡ false → convertedBytes q m ≡ k) → convertedBytes (cond b p q) m ≡ k
+by-op true p q m k h j = h refl
+by-op false p q m k h j = j refl
+
+-- a conversion touches so many bytes of its source
+converted-bytes : {d : VarId} {s : Source} {n : ℕ} {a b : Bool} {op : ConvOp} {z : Size} → Conversion d s n a b op z → convertedBytes op (span z) ≡ castTouches a b (s .size) n
+converted-bytes {n = n} between-floats = by-op (eqb n 8) ConvOp.Cvtss2sd ConvOp.Cvtsd2ss 8 _ (λ e. rw e) (λ e. rw e)
+converted-bytes {s = s} {n} (to-float {z} e) =
+    let u = size-is (s .size) .of z e in
+    by-op (eqb n 8) ConvOp.Cvtsi2sd ConvOp.Cvtsi2ss (span z) (s .size) (λ _. u .is) (λ _. u .is)
+converted-bytes {s = s} (from-float {z} e) = by-op (eqb (s .size) 8) ConvOp.Cvttsd2si ConvOp.Cvttss2si (span z) _ (λ e. rw e) (λ e. rw e)
+
+-- by which bytes an operation takes its sides
+calculated : {op : BinaryOp} (left dest k : ℕ) → op ≡ getD calculations k BinaryOp.Add → binaryBytes op left dest ≡ dest
+calculated left dest k e =
+    rw e
+    (each-or (λ op. binaryBytes op left dest ≡ dest) calculations k BinaryOp.Add (refl, (refl, (refl, (refl, (refl, (refl, (refl, (refl, (refl, (refl, tt)))))))))) refl)
+
+compared : {op : BinaryOp} (left dest k : ℕ) → op ≡ getD comparisons k BinaryOp.Eq → binaryBytes op left dest ≡ left
+compared left dest k e =
+    rw e (each-or (λ op. binaryBytes op left dest ≡ left) comparisons k BinaryOp.Eq (refl, (refl, (refl, (refl, (refl, (refl, tt)))))) refl)
+
 module _ (tables : Tables) (vars : List IrType) (N : Naming) (Q : Type 0) where
   abbrev ctx : Context
   ctx = contextWith tables vars
@@ -390,9 +415,9 @@ module _ (tables : Tables) (vars : List IrType) (N : Naming) (Q : Type 0) where
       go IrOp.Null w h = value-at IrOp.Null w h
 
   -- .. by a size of n bytes
-  load-by : {n : ℕ} (r : Register) (x : IrOp) (z : Size) → Usable r → Sized n z → GivenOperand (N false) n x → (Q → SmallOperand x)
-      → Yields (loadOperand ctx r x z) (Sound vars N Q)
-  load-by r x z u s w h = load-at r x z u (rw (s .own (ownSize ctx x), s .is) w) h
+  load-by : {n : ℕ} {z : Size} {i : Instruction} (r : Register) (x : IrOp) → Usable r → Sized n z → GivenOperand (N false) n x → (Q → SmallOperand x)
+      → loadOperand ctx r x z ≡ ok i → Sound vars N Q i
+  load-by {z = z} {i} r x u s w h e = load-at r x z u (rw (s .own (ownSize ctx x), s .is) w) h .of i e
 
   -- RAX, RCX, RDX, RDI, XMM0 and XMM1 are usable
   ax : Usable RAX
@@ -404,8 +429,9 @@ module _ (tables : Tables) (vars : List IrType) (N : Naming) (Q : Type 0) where
   dx : Usable RDX
   dx = (refl, lit< tt)
 
-  xmm0 : Usable (xmm 0)
-  xmm0 = (refl, lit< tt)
+  worked : (float : Bool) → Usable (working float)
+  worked true = (refl, lit< tt)
+  worked false = ax
 
   -- the store of a register to a variable
   store-at : {n : ℕ} (op : BinOp) (v : VarId) (x : Operand) (r : Register) (z : Size) → Sized n z → Given (N true) n v → At vars v x → FitsRegister r
@@ -415,41 +441,25 @@ module _ (tables : Tables) (vars : List IrType) (N : Naming) (Q : Type 0) where
   abbrev GivenVar : VarId → Type 0
   GivenVar d = Given (N true) (bytes (d .ty)) d
 
-  -- ---- instructions
+  -- .. that was looked up
+  stored : {y : Operand} {z : Size} (op : BinOp) (v : VarId) (r : Register) → convertVar ctx v ≡ ok y → varSize v ≡ ok z → GivenVar v → FitsRegister r
+      → Sound vars N Q (Instruction.Binary op y (Operand.Reg r) z)
+  stored {y} {z} op v r p q g f = store-at op v y r z (var-size-is v .of z q) g (var-at tables vars v .of y p) f
 
-  copies : (d : VarId) (x : IrOp) → GivenVar d → GivenOperand (N false) (bytes (d .ty)) x → (Q → SmallOperand x) → Yields (generateCopy ctx d x) (All (Sound vars N Q))
-  unfolding generateCopy
-  copies d x g w h =
-      bind (var-at tables vars d) (λ y p. bind (var-size-is d) (λ z u. bind (load-by RAX x z ax u w h) (λ i s.
-      yields (s, (store-at BinOp.Mov d y RAX z u g p (lit< tt), tt)))))
+  -- ---- copies and casts
+
+  copying : {d : VarId} {x : IrOp} {b : List Instruction} → Copies ctx d x b → GivenVar d → GivenOperand (N false) (bytes (d .ty)) x → (Q → SmallOperand x) → All (Sound vars N Q) b
+  copying {d} {x} (copies {z = z} p q r) g w h = (load-by RAX x ax (var-size-is d .of z q) w h r, (stored BinOp.Mov d RAX p q g (lit< tt), tt))
 
   -- a cast's source where it is converted: at most `castBytes` of a variable are touched there
   abbrev GivenCast : IrOp → Type 0
-  GivenCast (IrOp.Var u) = Given (N false) (castBytes (u .ty)) u
-  GivenCast (IrOp.Int k short unsigned) = Unit {0}
-  GivenCast (IrOp.Float k) = Unit {0}
-  GivenCast (IrOp.Bool b) = Unit {0}
-  GivenCast (IrOp.Address v) = Unit {0}
-  GivenCast (IrOp.DataAddress k) = Unit {0}
-  GivenCast IrOp.Null = Unit {0}
+  GivenCast = OfVar (λ u. Given (N false) (castBytes (u .ty)) u)
 
   abbrev Touchable : IrOp → ℕ → Type 0
-  Touchable (IrOp.Var u) n = n ≤ castBytes (u .ty)
-  Touchable (IrOp.Int k short unsigned) n = Unit {0}
-  Touchable (IrOp.Float k) n = Unit {0}
-  Touchable (IrOp.Bool b) n = Unit {0}
-  Touchable (IrOp.Address v) n = Unit {0}
-  Touchable (IrOp.DataAddress k) n = Unit {0}
-  Touchable IrOp.Null n = Unit {0}
+  Touchable x n = OfVar (λ u. n ≤ castBytes (u .ty)) x
 
   abbrev SizeIs : IrOp → ℕ → ℕ → Type 0
-  SizeIs (IrOp.Var u) m n = m ≡ n
-  SizeIs (IrOp.Int k short unsigned) m n = Unit {0}
-  SizeIs (IrOp.Float k) m n = Unit {0}
-  SizeIs (IrOp.Bool b) m n = Unit {0}
-  SizeIs (IrOp.Address v) m n = Unit {0}
-  SizeIs (IrOp.DataAddress k) m n = Unit {0}
-  SizeIs IrOp.Null m n = Unit {0}
+  SizeIs x m n = OfVar (λ u. m ≡ n) x
 
   abbrev Brought : IrOp → ℕ → Source → Type 0
   Brought x n s = All (Sound vars N Q) (s .records) × ((m : ℕ) → Touchable x m → SoundOperand vars (N false) m Q (s .operand)) × SizeIs x (s .size) n
@@ -471,41 +481,26 @@ module _ (tables : Tables) (vars : List IrType) (N : Naming) (Q : Type 0) where
 
   -- the source is copied, or cast
   copied-few : (x : IrOp) (k : Kind) (float : Bool) (n : ℕ) → GivenCast x → KindOf x k → isCopy k float n ≡ true → GivenOperand (N false) n x
-  copied-few (IrOp.Var u) k float n w q e =
+  copied-few x k float n w q e =
       let t = both (Bool·beq (k .float) float && (eqb (k .size) n || not float)) (leb n (k .size)) e in
-      given-less (N false) u (omega (arith, leb-true n (k .size) (t .1), q .0, own-cast (u .ty))) w
-  copied-few (IrOp.Int v short unsigned) k float n w q e = tt
-  copied-few (IrOp.Float v) k float n w q e = tt
-  copied-few (IrOp.Bool b) k float n w q e = tt
-  copied-few (IrOp.Address v) k float n w q e = tt
-  copied-few (IrOp.DataAddress v) k float n w q e = tt
-  copied-few IrOp.Null k float n w q e = tt
+      of-var _ x (λ u i. given-less (N false) u (omega (arith, leb-true n (k .size) (t .1), (rw i at q) .0, own-cast (u .ty))) (rw i at w))
 
   touches : (x : IrOp) (k : Kind) (s : Source) (d : IrType) (n : ℕ) → KindOf x k → SizeIs x (s .size) (k .size) → n ≡ bytes d → isCopy k (isFloat d) n ≡ false
       → (not (k .float) && eqb (s .size) 1) ≡ false → Touchable x (castTouches (k .float) (isFloat d) (s .size) n)
-  touches (IrOp.Var u) k s d n q z r e g =
-      let p : s .size ≡ bytes (u .ty) = z ∙ q .0 in
-      rw (q .1, p, r)
-      (cast-few (u .ty) d (q .2)
-      (subst (λ (m : ℕ). ((Bool·beq (isFloat (u .ty)) (isFloat d) && (eqb m (bytes d) || not (isFloat d))) && leb (bytes d) m) ≡ false) (q .0)
-      (subst (λ (f : Bool). ((Bool·beq f (isFloat d) && (eqb (k .size) (bytes d) || not (isFloat d))) && leb (bytes d) (k .size)) ≡ false) (q .1)
-      (subst (λ (n : ℕ). isCopy k (isFloat d) n ≡ false) r e)))
-      (subst (λ (m : ℕ). (not (isFloat (u .ty)) && eqb m 1) ≡ false) p (subst (λ (f : Bool). (not f && eqb (s .size) 1) ≡ false) (q .1) g)))
-  touches (IrOp.Int v short unsigned) k s d n q z r e g = tt
-  touches (IrOp.Float v) k s d n q z r e g = tt
-  touches (IrOp.Bool b) k s d n q z r e g = tt
-  touches (IrOp.Address v) k s d n q z r e g = tt
-  touches (IrOp.DataAddress v) k s d n q z r e g = tt
-  touches IrOp.Null k s d n q z r e g = tt
+  touches x k s d n q z r e g = of-var _ x (λ u i. variable u (rw i at q) (rw i at z))
+    where
+      variable : (u : VarId) → KindOf (IrOp.Var u) k → s .size ≡ k .size → castTouches (k .float) (isFloat d) (s .size) n ≤ castBytes (u .ty)
+      variable u q z =
+          let p : s .size ≡ bytes (u .ty) = z ∙ q .0 in
+          rw (q .1, p, r)
+          (cast-few (u .ty) d (q .2)
+          (subst (λ (m : ℕ). ((Bool·beq (isFloat (u .ty)) (isFloat d) && (eqb m (bytes d) || not (isFloat d))) && leb (bytes d) m) ≡ false) (q .0)
+          (subst (λ (f : Bool). ((Bool·beq f (isFloat d) && (eqb (k .size) (bytes d) || not (isFloat d))) && leb (bytes d) (k .size)) ≡ false) (q .1)
+          (subst (λ (n : ℕ). isCopy k (isFloat d) n ≡ false) r e)))
+          (subst (λ (m : ℕ). (not (isFloat (u .ty)) && eqb m 1) ≡ false) p (subst (λ (f : Bool). (not f && eqb (s .size) 1) ≡ false) (q .1) g)))
 
   one-touched : (x : IrOp) (k : Kind) (s : Source) → KindOf x k → SizeIs x (s .size) (k .size) → eqb (s .size) 1 ≡ true → Touchable x 1
-  one-touched (IrOp.Var u) k s q z e = omega (arith, eqb-true (s .size) 1 e, z, q .0, own-cast (u .ty))
-  one-touched (IrOp.Int v short unsigned) k s q z e = tt
-  one-touched (IrOp.Float v) k s q z e = tt
-  one-touched (IrOp.Bool b) k s q z e = tt
-  one-touched (IrOp.Address v) k s q z e = tt
-  one-touched (IrOp.DataAddress v) k s q z e = tt
-  one-touched IrOp.Null k s q z e = tt
+  one-touched x k s q z e = of-var _ x (λ u i. omega (arith, eqb-true (s .size) 1 e, rw i at z, (rw i at q) .0, own-cast (u .ty)))
 
   -- where it is converted, no more of it is touched
   abbrev Ready : Bool → Bool → ℕ → Source → Type 0
@@ -524,23 +519,15 @@ module _ (tables : Tables) (vars : List IrType) (N : Naming) (Q : Type 0) where
       )
       go false z = (h .0, h .1 _ (touches x k s d n q (h .2) r e z))
 
-  conversion : (op : ConvOp) (r : Register) (x : Operand) (z : Size) → Usable r → SoundOperand vars (N false) (convertedBytes op (span z)) Q x
+  converts : (op : ConvOp) (r : Register) (x : Operand) (z : Size) → Usable r → SoundOperand vars (N false) (convertedBytes op (span z)) Q x
       → Sound vars N Q (Instruction.Convert op r x z)
-  conversion op r x z h k = record { kept = h .0; slots = k .0; fits = λ q. (h .1, k .1 q); plain = λ l. refl; uncalled = refl }
+  converts op r x z h k = record { kept = h .0; slots = k .0; fits = λ q. (h .1, k .1 q); plain = λ l. refl; uncalled = refl }
 
-  converts : (d : VarId) (s : Source) (op : ConvOp) (r : Register) (z : Size) → GivenVar d → Usable r → All (Sound vars N Q) (s .records)
-      → SoundOperand vars (N false) (convertedBytes op (span z)) Q (s .operand) → Yields (converted ctx d s op r z) (All (Sound vars N Q))
-  converts d s op r z g u h k =
-      bind (var-at tables vars d) (λ y p. bind (var-size-is d) (λ q v. yields
-      (all-append (Sound vars N Q) (s .records) _ h
-      (conversion op r (s .operand) z u k, (store-at (cond (isFloat (d .ty)) BinOp.StoreF BinOp.Mov) d y r q v g p (u .1), tt)))))
-
-  extending : (d : VarId) (s : Source) (n : ℕ) → GivenVar d → Ready false false n s → Yields (extended ctx d s) (All (Sound vars N Q))
-  extending d s n g h =
-      bind (var-at tables vars d) (λ y p. bind (var-size-is d) (λ z u. yields
-      (all-append (Sound vars N Q) (s .records ++ widening (eqb (s .size) 8)) _
-      (all-append (Sound vars N Q) (s .records) _ (h .0) (go (eqb (s .size) 8) (h .1)))
-      (store-at BinOp.Mov d y RAX z u g p (lit< tt), tt))))
+  extending : {y : Operand} {z : Size} (d : VarId) (s : Source) (n : ℕ) → convertVar ctx d ≡ ok y → varSize d ≡ ok z → GivenVar d → Ready false false n s
+      → All (Sound vars N Q) (s .records ++ cond (eqb (s .size) 8) [] (Instruction.Extend ExtendOp.Movsxd RAX (s .operand) Size.U32 Size.U64 ∷ []) ++ move y (Operand.Reg RAX) z ∷ [])
+  extending d s n p q g h =
+      all-append (Sound vars N Q) (s .records ++ widening (eqb (s .size) 8)) _
+      (all-append (Sound vars N Q) (s .records) _ (h .0) (go (eqb (s .size) 8) (h .1))) (stored BinOp.Mov d RAX p q g (lit< tt), tt)
     where
       widening : Bool → List Instruction
       widening b = cond b [] (Instruction.Extend ExtendOp.Movsxd RAX (s .operand) Size.U32 Size.U64 ∷ [])
@@ -549,58 +536,13 @@ module _ (tables : Tables) (vars : List IrType) (N : Naming) (Q : Type 0) where
       go true k = tt
       go false k = (extends vars N Q ExtendOp.Movsxd RAX (s .operand) Size.U32 Size.U64 ax k, tt)
 
-  between : (d : VarId) (s : Source) (a b : Bool) (n : ℕ) → GivenVar d → Ready a b n s → Yields (castBetween ctx d s a b n) (All (Sound vars N Q))
-  unfolding castBetween
-  between d s true true n g h = converts d s _ (xmm 0) Size.NoSize g xmm0 (h .0) (go (eqb n 8) (h .1))
-    where
-      go : (b : Bool) → SoundOperand vars (N false) (cond b 4 8) Q (s .operand)
-          → SoundOperand vars (N false) (convertedBytes (cond b ConvOp.Cvtss2sd ConvOp.Cvtsd2ss) 8) Q (s .operand)
-      go true k = k
-      go false k = k
-  between d s false true n g h = bind (size-is (s .size)) (λ z u. converts d s _ (xmm 0) z g xmm0 (h .0) (go (span z) (eqb n 8) (rw (u .is) (h .1))))
-    where
-      go : (m : ℕ) (b : Bool) → SoundOperand vars (N false) m Q (s .operand)
-          → SoundOperand vars (N false) (convertedBytes (cond b ConvOp.Cvtsi2sd ConvOp.Cvtsi2ss) m) Q (s .operand)
-      go m true k = k
-      go m false k = k
-  between d s true false n g h = bind (any (varSize d)) (λ z u. converts d s _ RAX z g ax (h .0) (go (span z) (eqb (s .size) 8) (h .1)))
-    where
-      go : (m : ℕ) (b : Bool) → SoundOperand vars (N false) (cond b 8 4) Q (s .operand)
-          → SoundOperand vars (N false) (convertedBytes (cond b ConvOp.Cvttsd2si ConvOp.Cvttss2si) m) Q (s .operand)
-      go m true k = k
-      go m false k = k
-  between d s false false n g h = extending d s n g h
-
-  casts : (d : VarId) (x : IrOp) → GivenVar d → GivenCast x → (Q → SmallOperand x) → Yields (generateCast ctx d x) (All (Sound vars N Q))
-  unfolding generateCast
-  casts d x g w h =
-      bind (kind-of ctx x) (λ k u. bind (type-size-is (d .ty)) (λ n v.
-      choose (isCopy k (isFloat (d .ty)) n) (λ e. copies d x g (copied-few x k (isFloat (d .ty)) (bytes (d .ty)) w u (rw (v .0) at e)) h)
-      (λ e. bind (brings x (k .size) w h) (λ s t. between d (widened (k .float) s) (k .float) (isFloat (d .ty)) n g (widens x k (d .ty) n s u (v .0) e t)))))
+  casting : {d : VarId} {s : Source} {n : ℕ} {a b : Bool} {is : List Instruction} → Converts ctx d s n a b is → GivenVar d → Ready a b n s → All (Sound vars N Q) is
+  casting {d} {s} {b = b} (conversion {op = op} {z} c p q) g h =
+      all-append (Sound vars N Q) (s .records) _ (h .0)
+      (converts op (working b) (s .operand) z (worked b) (rw (converted-bytes c) (h .1)), (stored _ d (working b) p q g (worked b .1), tt))
+  casting {d} {s} {n} (extension p q) g h = extending d s n p q g h
 
   -- ---- arithmetic
-
-  simples : (d : VarId) (x y : IrOp) (op : BinOp) → GivenVar d → GivenOperand (N false) (bytes (d .ty)) x → GivenOperand (N false) (bytes (d .ty)) y
-      → (Q → SmallOperand x) → (Q → SmallOperand y) → Yields (simpleOperation ctx d x y op) (All (Sound vars N Q))
-  unfolding simpleOperation
-  simples d x y op c e f h k =
-      bind (var-size-is d) (λ z u. bind (load-by RAX x z ax u e h) (λ i s. bind (operand-at (bytes (d .ty)) y f k) (λ b g. bind (var-at tables vars d) (λ v p.
-      yields (s, (into-register vars N Q op RAX b z ax (rw (u .is) g), (store-at BinOp.Mov d v RAX z u c p (lit< tt), tt)))))))
-
-  floats : (d : VarId) (x y : IrOp) (op : BinOp) → GivenVar d → GivenOperand (N false) (bytes (d .ty)) x → GivenOperand (N false) (bytes (d .ty)) y
-      → (Q → SmallOperand x) → (Q → SmallOperand y) → Yields (floatOperation ctx d x y op) (All (Sound vars N Q))
-  unfolding floatOperation
-  floats d x y op c e f h k =
-      bind (var-size-is d) (λ z u. bind (load-by (xmm 0) x z xmm0 u e h) (λ i s. bind (operand-at (bytes (d .ty)) y f k) (λ b g. bind (var-at tables vars d) (λ v p.
-      yields (s, (into-register vars N Q op (xmm 0) b z xmm0 (rw (u .is) g), (store-at BinOp.StoreF d v (xmm 0) z u c p (lit< tt), tt)))))))
-
-  two : (d : VarId) (x y : IrOp) (operation : Size → List Instruction) (r : Register) → GivenVar d → GivenOperand (N false) (bytes (d .ty)) x
-      → GivenOperand (N false) (bytes (d .ty)) y → (Q → SmallOperand x) → (Q → SmallOperand y)
-      → ((z : Size) → All (Sound vars N Q) (operation z)) → FitsRegister r → Yields (twoLoads ctx d x y operation r) (All (Sound vars N Q))
-  unfolding twoLoads
-  two d x y operation r a b c h k f g =
-      bind (var-size-is d) (λ z u. bind (load-by RAX x z ax u b h) (λ i s. bind (load-by RCX y z cx u c k) (λ j t. bind (var-at tables vars d) (λ v p.
-      yields (s, (t, all-append (Sound vars N Q) (operation z) _ (f z) (store-at BinOp.Mov d v r z u a p g, tt)))))))
 
   divides : (b : Bool) (z : Size) → All (Sound vars N Q) (dividing b z)
   divides true z = (
@@ -620,26 +562,6 @@ module _ (tables : Tables) (vars : List IrType) (N : Naming) (Q : Type 0) where
 
   sets : (cc : ConditionCode) (r : Register) → Usable r → Sound vars N Q (Instruction.SetCC cc (Operand.Reg r))
   sets cc r u = record { kept = u .0; slots = tt; fits = λ q. u .1; plain = λ l. refl; uncalled = refl }
-
-  compares : {n : ℕ} (d : VarId) (a : Register) (x : IrOp) (b : Register) (y : IrOp) (z : Size) (op : BinOp) (cc : ConditionCode) (more : List Instruction)
-      → Sized n z → Usable a → Usable b → GivenVar d → GivenOperand (N false) n x → GivenOperand (N false) n y → (Q → SmallOperand x) → (Q → SmallOperand y)
-      → All (Sound vars N Q) more → Yields (compared ctx d a x b y z op cc more) (All (Sound vars N Q))
-  unfolding compared
-  compares d a x b y z op cc more sz ua ub g e f h k m =
-      bind (load-by a x z ua sz e h) (λ i s. bind (load-by b y z ub sz f k) (λ j t. bind (var-at tables vars d) (λ v p. bind (var-size-is d) (λ q u.
-      yields (
-        s,
-        (
-          t,
-          (
-            into-register vars N Q op a (Operand.Reg b) z ua (tt, λ q. ub .1),
-            (
-              sets cc RAX ax,
-              all-append (Sound vars N Q) more _ m (store-at BinOp.Mov d v RAX q u g p (lit< tt), tt),
-            ),
-          ),
-        ),
-      )))))
 
   parities : (cc : ConditionCode) → All (Sound vars N Q) (ordered cc)
   parities cc = go (eqb (conditionCode cc) 0) (eqb (conditionCode cc) 1)
@@ -663,62 +585,60 @@ module _ (tables : Tables) (vars : List IrType) (N : Naming) (Q : Type 0) where
   left-kind (IrOp.DataAddress k) = yields refl
   left-kind IrOp.Null = yields refl
 
-  comparisons : (d : VarId) (x y : IrOp) (cc : ConditionCode) → GivenVar d → GivenOperand (N false) (comparedBytes tables x) x → GivenOperand (N false) (comparedBytes tables x) y
-      → (Q → SmallOperand x) → (Q → SmallOperand y) → Yields (comparison ctx d x y cc) (All (Sound vars N Q))
-  unfolding comparison floatComparison
-  comparisons d x y cc c e f h k =
-      bind (left-kind x) (λ q u. bind (subst (λ (n : ℕ). Yields (sizeFrom (q .size)) (Sized n)) u (size-is (q .size))) (λ z v.
-      choose (q .float)
-      (λ _. choose (isSwapped cc)
-      (λ _. compares d (xmm 0) y (xmm 1) x z BinOp.UcomiF (floatCode cc) [] v xmm0 (refl, lit< tt) c f e k h tt)
-      (λ _. compares d (xmm 0) x (xmm 1) y z BinOp.UcomiF (floatCode cc) (ordered cc) v xmm0 (refl, lit< tt) c e f h k (parities cc)))
-      (λ _. compares d RAX x RCX y z BinOp.Cmp _ [] v ax cx c e f h k tt)))
+  -- what follows two loads, and the register that is stored
+  works : {z : Size} {work : List Instruction} {r : Register} → Works z work r → All (Sound vars N Q) work × FitsRegister r
+  works {z} (quotient unsigned) = (divides unsigned z, lit< tt)
+  works {z} (remainder unsigned) = (divides unsigned z, lit< tt)
+  works {z} product = (multiplies z, lit< tt)
+  works {z} (shifted op) = (shifts op z, lit< tt)
+
+  -- a side that is taken by n bytes, and its register
+  abbrev Taken : ℕ → Register → IrOp → Type 0
+  Taken n r x = Usable r × GivenOperand (N false) n x × (Q → SmallOperand x)
+
+  sides : (n : ℕ) {x y l r : IrOp} {a b : Register} {more : List Instruction} → Sides x y a l b r more → GivenOperand (N false) n x → GivenOperand (N false) n y
+      → (Q → SmallOperand x) → (Q → SmallOperand y) → Taken n a l × Taken n b r × All (Sound vars N Q) more
+  sides n words e f h k = ((ax, e, h), (cx, f, k), tt)
+  sides n (floats cc) e f h k = ((worked true, e, h), ((refl, lit< tt), f, k), parities cc)
+  sides n swapped e f h k = ((worked true, f, k), ((refl, lit< tt), e, h), tt)
 
   abbrev GivenSide : VarId → BinaryOp → IrOp → IrOp → Type 0
   GivenSide d op x y = GivenOperand (N false) (binaryBytes op (comparedBytes tables x) (bytes (d .ty))) y
 
-  float-binaries : (d : VarId) (op : BinaryOp) (x y : IrOp) → GivenVar d → GivenSide d op x x → GivenSide d op x y → (Q → SmallOperand x) → (Q → SmallOperand y)
-      → Yields (floatBinary ctx d op x y) (All (Sound vars N Q))
-  float-binaries d BinaryOp.Or x y c e f h k = refuses 7
-  float-binaries d BinaryOp.And x y c e f h k = refuses 7
-  float-binaries d BinaryOp.BitOr x y c e f h k = refuses 7
-  float-binaries d BinaryOp.BitXor x y c e f h k = refuses 7
-  float-binaries d BinaryOp.BitAnd x y c e f h k = refuses 7
-  float-binaries d BinaryOp.Eq x y c e f h k = refuses 7
-  float-binaries d BinaryOp.NotEq x y c e f h k = refuses 7
-  float-binaries d BinaryOp.Lt x y c e f h k = refuses 7
-  float-binaries d BinaryOp.Le x y c e f h k = refuses 7
-  float-binaries d BinaryOp.Gt x y c e f h k = refuses 7
-  float-binaries d BinaryOp.Ge x y c e f h k = refuses 7
-  float-binaries d BinaryOp.Shl x y c e f h k = refuses 7
-  float-binaries d BinaryOp.Shr x y c e f h k = refuses 7
-  float-binaries d BinaryOp.Add x y c e f h k = floats d x y BinOp.AddF c e f h k
-  float-binaries d BinaryOp.Sub x y c e f h k = floats d x y BinOp.SubF c e f h k
-  float-binaries d BinaryOp.Mul x y c e f h k = floats d x y BinOp.MulF c e f h k
-  float-binaries d BinaryOp.Div x y c e f h k = floats d x y BinOp.DivF c e f h k
-  float-binaries d BinaryOp.Rem x y c e f h k = refuses 7
-
-  binaries : (d : VarId) (op : BinaryOp) (x y : IrOp) → GivenVar d → GivenSide d op x x → GivenSide d op x y → (Q → SmallOperand x) → (Q → SmallOperand y)
-      → Yields (integerBinary ctx d op x y) (All (Sound vars N Q))
-  unfolding multiplication division shift
-  binaries d BinaryOp.Or x y c e f h k = refuses 7
-  binaries d BinaryOp.And x y c e f h k = refuses 7
-  binaries d BinaryOp.BitOr x y c e f h k = simples d x y BinOp.Or c e f h k
-  binaries d BinaryOp.BitXor x y c e f h k = simples d x y BinOp.Xor c e f h k
-  binaries d BinaryOp.BitAnd x y c e f h k = simples d x y BinOp.And c e f h k
-  binaries d BinaryOp.Eq x y c e f h k = comparisons d x y ConditionCode.E c e f h k
-  binaries d BinaryOp.NotEq x y c e f h k = comparisons d x y ConditionCode.NE c e f h k
-  binaries d BinaryOp.Lt x y c e f h k = comparisons d x y ConditionCode.L c e f h k
-  binaries d BinaryOp.Le x y c e f h k = comparisons d x y ConditionCode.LE c e f h k
-  binaries d BinaryOp.Gt x y c e f h k = comparisons d x y ConditionCode.G c e f h k
-  binaries d BinaryOp.Ge x y c e f h k = comparisons d x y ConditionCode.GE c e f h k
-  binaries d BinaryOp.Shl x y c e f h k = two d x y _ RAX c e f h k (shifts ShiftOp.Shl) (lit< tt)
-  binaries d BinaryOp.Shr x y c e f h k = two d x y _ RAX c e f h k (shifts _) (lit< tt)
-  binaries d BinaryOp.Add x y c e f h k = simples d x y BinOp.Add c e f h k
-  binaries d BinaryOp.Sub x y c e f h k = simples d x y BinOp.Sub c e f h k
-  binaries d BinaryOp.Mul x y c e f h k = two d x y _ RAX c e f h k multiplies (lit< tt)
-  binaries d BinaryOp.Div x y c e f h k = two d x y _ RAX c e f h k (divides (isUnsigned (d .ty))) (lit< tt)
-  binaries d BinaryOp.Rem x y c e f h k = two d x y _ RDX c e f h k (divides (isUnsigned (d .ty))) (lit< tt)
+  binaries : {d : VarId} {op : BinaryOp} {x y : IrOp} {b : List Instruction} → Operates ctx d op x y b → GivenVar d → GivenSide d op x x → GivenSide d op x y
+      → (Q → SmallOperand x) → (Q → SmallOperand y) → All (Sound vars N Q) b
+  binaries {d} {x = x} {y} (one-load {p} {z} {src = src} k float o q r t v) c e f h j =
+      let own = calculated (comparedBytes tables x) (bytes (d .ty)) k o in
+      let u : Sized (bytes (d .ty)) z = var-size-is d .of z q in
+      let g = operand-at (bytes (d .ty)) y (rw own at f) j .of src t in (
+        load-by (working float) x (worked float) u (rw own at e) h r,
+        (
+          into-register vars N Q p (working float) src z (worked float) (rw (u .is) g),
+          (stored (storeOf float) d (working float) v q c (worked float .1), tt),
+        ),
+      )
+  binaries {d} {x = x} {y} (two-loads {z} {work = work} {r} k o q s t w v) c e f h j =
+      let own = calculated (comparedBytes tables x) (bytes (d .ty)) k o in
+      let u : Sized (bytes (d .ty)) z = var-size-is d .of z q in (
+        load-by RAX x ax u (rw own at e) h s,
+        (
+          load-by RCX y cx u (rw own at f) j t,
+          all-append (Sound vars N Q) work _ (works w .0) (stored BinOp.Mov d r v q c (works w .1), tt),
+        ),
+      )
+  binaries {d} {x = x} {y} (compares {p} {code} {left} {z} {a = a} {b} {l} {r} {more} k o q s t i m v w) c e f h j =
+      let own = compared (comparedBytes tables x) (bytes (d .ty)) k o in
+      let u : Sized (comparedBytes tables x) z = rw (left-kind x .of left q) at (size-is (left .size) .of z s) in
+      let (la, rb, ms) = sides (comparedBytes tables x) t (rw own at e) (rw own at f) h j in (
+        load-by a l (la .0) u (la .1) (la .2) i,
+        (
+          load-by b r (rb .0) u (rb .1) (rb .2) m,
+          (
+            into-register vars N Q p a (Operand.Reg b) z (la .0) (tt, λ q. rb .0 .1),
+            (sets code RAX ax, all-append (Sound vars N Q) more _ ms (stored BinOp.Mov d RAX v w c (lit< tt), tt)),
+          ),
+        ),
+      )
 
   sign-lt : (z : Size) → signBit z < W
   sign-lt Size.NoSize = lit< tt
@@ -736,23 +656,12 @@ module _ (tables : Tables) (vars : List IrType) (N : Naming) (Q : Type 0) where
   unaries IrUnary.BitNot float z = (record { kept = refl; slots = tt; fits = λ q. lit< tt; plain = λ l. refl; uncalled = refl }, tt)
   unaries IrUnary.Not float z = (into-register vars N Q BinOp.Xor RAX (Operand.Imm 1) z ax (tt, λ q. lit< tt), tt)
 
-  unary : (d : VarId) (op : IrUnary) (x : IrOp) → GivenVar d → GivenOperand (N false) (bytes (d .ty)) x → (Q → SmallOperand x)
-      → Yields (generateUnary ctx d op x) (All (Sound vars N Q))
-  unfolding generateUnary
-  unary d op x g w h =
-      bind (var-size-is d) (λ z u. bind (load-by RAX x z ax u w h) (λ i s. bind (var-at tables vars d) (λ v p.
-      yields (
-        s,
-        all-append (Sound vars N Q) (unaryRecords op (isFloat (d .ty)) z) _ (unaries op (isFloat (d .ty)) z)
-            (store-at BinOp.Mov d v RAX z u g p (lit< tt), tt),
-      ))))
-
-  zeroes : (d : VarId) → Given (N false) (bytes (d .ty)) d → Yields (generateZero ctx d) (All (Sound vars N Q))
-  unfolding generateZero
-  zeroes d g =
-      bind (type-size-is (d .ty)) (λ n h. bind (var-at tables vars d) (λ v p.
-      let o = slot-sound vars (N false) Q 0 d (given-less (N false) d (omega arith) g) (p .0) in
-      yields (
+  zeroes : {n : ℕ} {y : Operand} (d : VarId) → Given (N false) (bytes (d .ty)) d → typeSize (d .ty) ≡ ok n → convertVar ctx d ≡ ok y
+      → All (Sound vars N Q) (Instruction.Lea y RDI Size.NoSize ∷ move (Operand.Reg RCX) (Operand.Imm n) Size.U64 ∷ move (Operand.Reg RAX) (Operand.Imm 0) Size.U64
+      ∷ Instruction.Prefix Prefix.Rep StringOp.Stos Size.U8 ∷ [])
+  zeroes {n} {y} d g h q =
+      let p = var-at tables vars d .of y q in
+      let o = slot-sound vars (N false) Q 0 d (given-less (N false) d (omega arith) g) (p .0) in (
         record {
           kept = refl;
           slots = rw (p .1) (o .0);
@@ -761,13 +670,13 @@ module _ (tables : Tables) (vars : List IrType) (N : Naming) (Q : Type 0) where
           uncalled = refl;
         },
         (
-          into-register vars N Q BinOp.Mov RCX (Operand.Imm n) Size.U64 cx (tt, λ q. rw (h .0) (bytes-lt (d .ty))),
+          into-register vars N Q BinOp.Mov RCX (Operand.Imm n) Size.U64 cx (tt, λ q. rw (type-size-is (d .ty) .of n h .0) (bytes-lt (d .ty))),
           (
             into-register vars N Q BinOp.Mov RAX (Operand.Imm 0) Size.U64 ax (tt, λ q. lit< tt),
             (record { kept = refl; slots = tt; fits = λ q. tt; plain = λ l. refl; uncalled = refl }, tt),
           ),
         ),
-      )))
+      )
 
   pub zeroing-is : (d : VarId) → Yields (generateZero ctx d) (λ b. b ≡ zeroing vars d)
   unfolding generateZero
@@ -780,39 +689,14 @@ module _ (tables : Tables) (vars : List IrType) (N : Naming) (Q : Type 0) where
       → Sound vars N Q (Instruction.Ctrl op (Operand.Label l))
   jumps op l t u h = record { kept = t; slots = tt; fits = h; plain = λ l. refl; uncalled = u }
 
-  jump-made : (labels l : ℕ) → (Q → l < W) → Yields (generateJump labels l) (All (Sound vars N Q))
-  unfolding generateJump
-  jump-made labels l h = bind (labels-at labels l) (λ k e. yields (rw e (jumps CtrlOp.Jmp l refl refl h), tt))
-
-  branch-made : (labels : ℕ) (x : IrOp) (l : ℕ) → GivenOperand (N false) 1 x → (Q → SmallOperand x) → (Q → l < W) → Yields (generateJmpIfNot ctx labels x l) (All (Sound vars N Q))
-  unfolding generateJmpIfNot
-  branch-made labels x l w g h =
-      bind (load-at RAX x Size.U8 ax w g) (λ i s. bind (labels-at labels l) (λ k e.
-      yields (
-        s,
-        (
-          into-register vars N Q BinOp.Cmp RAX (Operand.Imm 0) Size.U8 ax (tt, λ q. lit< tt),
-          (rw e (jumps (CtrlOp.JmpCC ConditionCode.E) l refl refl h), tt),
-        ),
-      )))
-
-  return-made : (ret : IrType) (x : IrOp) → GivenArgument (N false) x → (Q → SmallOperand x)
-      → Yields (generateReturn ctx ret x) (λ b. (load : Instruction) × Sound vars N Q load × (b ≡ load ∷ funcEpilogue))
-  unfolding generateReturn ownSize operandSize
-  return-made ret x w h = bind (load-at (cond (isFloat ret) (xmm 0) RAX) x Size.NoSize (go (isFloat ret)) (own x w) h) (λ i s. yields (i, s, refl))
+  -- a Return's load, by the operand's own size
+  returning : {i : Instruction} (ret : IrType) (x : IrOp) → GivenArgument (N false) x → (Q → SmallOperand x)
+      → loadOperand ctx (working (isFloat ret)) x Size.NoSize ≡ ok i → Sound vars N Q i
+  unfolding ownSize operandSize
+  returning {i} ret x w h e = load-at (working (isFloat ret)) x Size.NoSize (worked (isFloat ret)) (own x w) h .of i e
     where
       own : (x : IrOp) → GivenArgument (N false) x → GivenOperand (N false) (span (ownSize ctx x)) x
-      own (IrOp.Var v) w = rw (passed-span (v .ty)) w
-      own (IrOp.Int k short unsigned) w = tt
-      own (IrOp.Float k) w = tt
-      own (IrOp.Bool b) w = tt
-      own (IrOp.Address v) w = tt
-      own (IrOp.DataAddress k) w = tt
-      own IrOp.Null w = tt
-
-      go : (b : Bool) → Usable (cond b (xmm 0) RAX)
-      go true = xmm0
-      go false = ax
+      own x w = of-var _ x (λ v i. rw (i, passed-span (v .ty)) (rw i at w))
 
   -- an argument's load
   loaded : (r : Register) (x : IrOp) → Yields (loadOperand ctx r x Size.NoSize) (Loaded tables vars r x)
@@ -861,25 +745,13 @@ module _ (tables : Tables) (vars : List IrType) (N : Naming) (Q : Type 0) where
 -- ---- what an instruction names
 
 taken-operand : (N : Taking) (n : ℕ) (x : IrOp) → ((v : VarId) (w : ℕ) → Takes n x v w → N v w) → GivenOperand N n x
-taken-operand N n (IrOp.Var u) f = (n, f u n (refl, refl), omega arith)
-taken-operand N n (IrOp.Int k short unsigned) f = tt
-taken-operand N n (IrOp.Float k) f = tt
-taken-operand N n (IrOp.Bool b) f = tt
-taken-operand N n (IrOp.Address u) f = tt
-taken-operand N n (IrOp.DataAddress k) f = tt
-taken-operand N n IrOp.Null f = tt
+taken-operand N n x f = of-var _ x (λ u i. (n, f u n (rw i (refl, refl)), omega arith))
 
 whole-var : (N : Taking) (d : VarId) → ((v : VarId) (w : ℕ) → Whole d v w → N v w) → Given N (bytes (d .ty)) d
 whole-var N d f = (bytes (d .ty), f d (bytes (d .ty)) (refl, refl), omega arith)
 
 passed-operand : (N : Taking) (x : IrOp) → ((v : VarId) (w : ℕ) → Passes x v w → N v w) → GivenArgument N x
-passed-operand N (IrOp.Var u) f = (passedBytes (u .ty), f u (passedBytes (u .ty)) (refl, refl), omega arith)
-passed-operand N (IrOp.Int k short unsigned) f = tt
-passed-operand N (IrOp.Float k) f = tt
-passed-operand N (IrOp.Bool b) f = tt
-passed-operand N (IrOp.Address u) f = tt
-passed-operand N (IrOp.DataAddress k) f = tt
-passed-operand N IrOp.Null f = tt
+passed-operand N x f = of-var _ x (λ u i. (passedBytes (u .ty), f u (passedBytes (u .ty)) (rw i (refl, refl)), omega arith))
 
 passed-operands : (N : Taking) (xs : List IrOp) → ((v : VarId) (w : ℕ) → PassesOne xs v w → N v w) → GivenArguments N xs
 passed-operands N [] f = tt
@@ -892,45 +764,60 @@ module _ (tables : Tables) (vars : List IrType) (Q : Type 0) where
   context = contextWith tables vars
 
   cast-source : (N : Naming) (x : IrOp) → ((v : VarId) (w : ℕ) → Casts x v w → N false v w) → GivenCast tables vars N Q x
-  cast-source N (IrOp.Var u) f = (castBytes (u .ty), f u (castBytes (u .ty)) (refl, refl), omega arith)
-  cast-source N (IrOp.Int k short unsigned) f = tt
-  cast-source N (IrOp.Float k) f = tt
-  cast-source N (IrOp.Bool b) f = tt
-  cast-source N (IrOp.Address u) f = tt
-  cast-source N (IrOp.DataAddress k) f = tt
-  cast-source N IrOp.Null f = tt
+  cast-source N x f = of-var _ x (λ u i. (castBytes (u .ty), f u (castBytes (u .ty)) (rw i (refl, refl)), omega arith))
 
   call-result : (N : Naming) (d : Dest) → ((v : VarId) (w : ℕ) → Result d v w → N true v w) → GivenResult tables vars N Q d
   call-result N Dest.Nothing f = tt
   call-result N (Dest.Var d) f = whole-var (N true) d f
 
+  made-of : {labels : ℕ} {ret : IrType} {i : Instr} {args : List IrOp} {b : List Instruction} → Lowers context labels ret i args b → (Q → SmallInstr i args)
+      → Made tables vars (Names tables i args) Q i args b
+  made-of (copied {d} {x} {args} c) h =
+      let N : Naming = Names tables (Instr.Copy d x) args in
+      copying tables vars N Q c (whole-var (N true) d (λ v w z. z)) (taken-operand (N false) (bytes (d .ty)) x (λ v w z. z)) h
+  made-of (unary {d} {op} {x} {args} {z} p q r) h =
+      let N : Naming = Names tables (Instr.Unary d op x) args in (
+        load-by tables vars N Q RAX x (ax tables vars N Q) (var-size-is d .of z p) (taken-operand (N false) (bytes (d .ty)) x (λ v w z. z)) h q,
+        all-append (Sound vars N Q) (unaryRecords op (isFloat (d .ty)) z) _ (unaries tables vars N Q op (isFloat (d .ty)) z)
+            (stored tables vars N Q BinOp.Mov d RAX r p (whole-var (N true) d (λ v w z. z)) (lit< tt), tt),
+      )
+  made-of (binary {d} {op} {x} {y} {args} o) h =
+      let N : Naming = Names tables (Instr.Binary d op x y) args in
+      binaries tables vars N Q o (whole-var (N true) d (λ v w z. z)) (taken-operand (N false) _ x (λ v w z. inl z)) (taken-operand (N false) _ y (λ v w z. inr z))
+      (λ q. h q .0) (λ q. h q .1)
+  made-of (cast-copied {d} {x} {args} {k} {n} p q e c) h =
+      let N : Naming = Names tables (Instr.Cast d x) args in
+      let few = copied-few tables vars N Q x k (isFloat (d .ty)) n (cast-source N x (λ v w z. z)) (kind-of context x .of k p) e in
+      copying tables vars N Q c (whole-var (N true) d (λ v w z. z)) (rw (type-size-is (d .ty) .of n q .0) at few) h
+  made-of (cast {d} {x} {args} {k} {n} {s} p q e r c) h =
+      let N : Naming = Names tables (Instr.Cast d x) args in
+      let brought = brings tables vars N Q x (k .size) (cast-source N x (λ v w z. z)) h .of s r in
+      casting tables vars N Q c (whole-var (N true) d (λ v w z. z))
+      (widens tables vars N Q x k (d .ty) n s (kind-of context x .of k p) (type-size-is (d .ty) .of n q .0) e brought)
+  made-of (zeroed {d} {args} p q) h =
+      let N : Naming = Names tables (Instr.Zero d) args in
+      zeroes tables vars N Q d (whole-var (N false) d (λ v w z. z)) p q
+  made-of (called {d} {f} {count} {args} {b} e) h =
+      let N : Naming = Names tables (Instr.Call d f count) args in
+      call-made tables vars N Q d f args (call-result N d (λ v w z. z)) (passed-operands (N false) args (λ v w z. z)) .of b e
+  made-of (labelled {l} {k} p) h = rw (labels-at _ l .of k p)
+  made-of (jump {l} {k} {args} p) h = (rw (labels-at _ l .of k p) (jumps tables vars (Names tables (Instr.Jump l) args) Q CtrlOp.Jmp l refl refl h), tt)
+  made-of (branch {x} {l} {k} {args} {load} p q) h =
+      let N : Naming = Names tables (Instr.JumpIfNot x l) args in (
+        load-at tables vars N Q RAX x Size.U8 (ax tables vars N Q) (taken-operand (N false) 1 x (λ v w z. z)) (λ q. h q .0) .of load p,
+        (
+          into-register vars N Q BinOp.Cmp RAX (Operand.Imm 0) Size.U8 (ax tables vars N Q) (tt, λ q. lit< tt),
+          (rw (labels-at _ l .of k q) (jumps tables vars N Q (CtrlOp.JmpCC ConditionCode.E) l refl refl (λ q. h q .1)), tt),
+        ),
+      )
+  made-of {ret = ret} (returned {x} {args} {load} p) h =
+      let N : Naming = Names tables (Instr.Return x) args in
+      (load, returning tables vars N Q ret x (passed-operand (N false) x (λ v w z. z)) h p, refl)
+  made-of comment h = tt
+
   pub made : (labels : ℕ) (ret : IrType) (i : Instr) (args : List IrOp) → (Q → SmallInstr i args)
       → Yields (generateInstr context labels ret i args) (Made tables vars (Names tables i args) Q i args)
-  unfolding generateInstr generateBinary
-  made labels ret (Instr.Copy d x) args h =
-      copies tables vars (Names tables (Instr.Copy d x) args) Q d x (whole-var (Names tables (Instr.Copy d x) args true) d (λ v w z. z)) (taken-operand (Names tables (Instr.Copy d x) args false) (bytes (d .ty)) x (λ v w z. z)) h
-  made labels ret (Instr.Unary d op x) args h =
-      unary tables vars (Names tables (Instr.Unary d op x) args) Q d op x (whole-var (Names tables (Instr.Unary d op x) args true) d (λ v w z. z)) (taken-operand (Names tables (Instr.Unary d op x) args false) (bytes (d .ty)) x (λ v w z. z)) h
-  made labels ret (Instr.Binary d op x y) args h =
-      let N : Naming = Names tables (Instr.Binary d op x y) args in
-      let c : GivenVar tables vars N Q d = whole-var (N true) d (λ v w z. z) in
-      let e : GivenSide tables vars N Q d (binaryOp op) x x = taken-operand (N false) _ x (λ v w z. inl z) in
-      let f : GivenSide tables vars N Q d (binaryOp op) x y = taken-operand (N false) _ y (λ v w z. inr z) in
-      choose (isFloat (d .ty)) (λ _. float-binaries tables vars N Q d (binaryOp op) x y c e f (λ q. h q .0) (λ q. h q .1))
-      (λ _. binaries tables vars N Q d (binaryOp op) x y c e f (λ q. h q .0) (λ q. h q .1))
-  made labels ret (Instr.Cast d x) args h =
-      casts tables vars (Names tables (Instr.Cast d x) args) Q d x (whole-var (Names tables (Instr.Cast d x) args true) d (λ v w z. z))
-      (cast-source (Names tables (Instr.Cast d x) args) x (λ v w z. z)) h
-  made labels ret (Instr.Zero d) args h = zeroes tables vars (Names tables (Instr.Zero d) args) Q d (whole-var (Names tables (Instr.Zero d) args false) d (λ v w z. z))
-  made labels ret (Instr.Call d f count) args h =
-      call-made tables vars (Names tables (Instr.Call d f count) args) Q d f args
-      (call-result (Names tables (Instr.Call d f count) args) d (λ v w z. z)) (passed-operands (Names tables (Instr.Call d f count) args false) args (λ v w z. z))
-  made labels ret (Instr.Label l) args h = label-made labels l
-  made labels ret (Instr.Jump l) args h = jump-made tables vars (Names tables (Instr.Jump l) args) Q labels l h
-  made labels ret (Instr.JumpIfNot x l) args h =
-      branch-made tables vars (Names tables (Instr.JumpIfNot x l) args) Q labels x l (taken-operand (Names tables (Instr.JumpIfNot x l) args false) 1 x (λ v w z. z)) (λ q. h q .0) (λ q. h q .1)
-  made labels ret (Instr.Return x) args h = return-made tables vars (Names tables (Instr.Return x) args) Q ret x (passed-operand (Names tables (Instr.Return x) args false) x (λ v w z. z)) h
-  made labels ret Instr.Comment args h = yields tt
+  made labels ret i args h = values (implies (lowers context labels ret i args) (λ b l. made-of l h))
 
 -- ---- what holds of every record of an instruction
 
