@@ -1,7 +1,7 @@
 -- What an instruction is lowered to: what its maker looked up, and the list that it then gave. Every answer is such a list or a refusal by 4 to 8.
 use Prim.Native.Nat.{ℕ, suc}
 use mathlib.Core.Path.{_≡_, refl}
-use mathlib.Core.Bool.{Bool, true, false, cond}
+use mathlib.Core.Bool.{Bool, true, false, cond, not, _&&_}
 use mathlib.Core.List.{List, [], _∷_, _++_}
 use lib.Dec.{ltb, eqb}
 use lib.ListN.{length, getD}
@@ -29,13 +29,17 @@ use Rattle.x86.specs.declared.enums.Instruction.{Instruction}
 use Rattle.x86.specs.Registers.{xmm, RAX, RCX, RDX, RDI}
 use Rattle.codegen.specs.Context.{Context, displacement, stringAt, floatAt, floatShort, labelAt}
 use Rattle.codegen.specs.Utils.{sizeFrom, varSize, convertVar, convertOperand, loadString, loadValue, loadOperand}
-use Rattle.codegen.specs.Instructions.{move, Kind, operandKind, isCopy, Source, widened, converted, extended, castOperand, castBetween, funcEpilogue, generateReturn, generateCopy, generateCast, generateZero, floating, paramRegs, paramFregs, loadArgument, loadArguments, storeResult, generateCall, generateJmpIfNot, generateLabel, generateJump}
+use Rattle.codegen.specs.Instructions.{move, Kind, operandKind, isCopy, Source, widened, converted, extended, castOperand, castBetween, isUnsignedShort, zeroExtended, funcEpilogue, generateReturn, generateCopy, generateCast, generateZero, floating, paramRegs, paramFregs, loadArgument, loadArguments, storeResult, generateCall, generateJmpIfNot, generateLabel, generateJump}
 use Rattle.codegen.specs.Arithmetic.{simpleOperation, floatOperation, twoLoads, dividing, division, multiplication, shift, isSwapped, ordered, compared, floatComparison, comparison, generateBinary, unaryRecords, generateUnary}
 use Rattle.codegen.specs.Frame.{storeOf}
 use Rattle.codegen.specs.Generation.{generateInstr}
 use Rattle.codegen.proofs.Results.{Closed, gives, Slips, fine, slip, look, found, implies, either}
 
 -- ---- copies and casts
+
+pub data ZeroExtends (ctx : Context) (d : VarId) (x : IrOp) : List Instruction → Type 0 where
+  zero-extends : {load : Instruction} {var : Operand} {z : Size} → loadOperand ctx RAX x Size.U32 ≡ ok load → convertVar ctx d ≡ ok var → varSize d ≡ ok z
+      → ZeroExtends ctx d x (load ∷ move var (Operand.Reg RAX) z ∷ [])
 
 pub data Copies (ctx : Context) (d : VarId) (x : IrOp) : List Instruction → Type 0 where
   copies : {var : Operand} {z : Size} {load : Instruction} → convertVar ctx d ≡ ok var → varSize d ≡ ok z → loadOperand ctx RAX x z ≡ ok load
@@ -107,6 +111,8 @@ pub data Lowers (ctx : Context) (labels : ℕ) (ret : IrType) : Instr → List I
       → Lowers ctx labels ret (Instr.Binary d op x y) args b
   cast-copied : {d : VarId} {x : IrOp} {args : List IrOp} {k : Kind} {n : ℕ} {b : List Instruction} → operandKind ctx x ≡ ok k → typeSize (d .ty) ≡ ok n
       → isCopy k (isFloat (d .ty)) n ≡ true → Copies ctx d x b → Lowers ctx labels ret (Instr.Cast d x) args b
+  cast-short : {d : VarId} {x : IrOp} {args : List IrOp} {b : List Instruction} → isUnsignedShort x ≡ true → ZeroExtends ctx d x b
+      → Lowers ctx labels ret (Instr.Cast d x) args b
   cast : {d : VarId} {x : IrOp} {args : List IrOp} {k : Kind} {n : ℕ} {s : Source} {b : List Instruction} → operandKind ctx x ≡ ok k → typeSize (d .ty) ≡ ok n
       → isCopy k (isFloat (d .ty)) n ≡ false → castOperand ctx x (k .size) ≡ ok s → Converts ctx d (widened (k .float) s) n (k .float) (isFloat (d .ty)) b
       → Lowers ctx labels ret (Instr.Cast d x) args b
@@ -221,6 +227,10 @@ module _ (ctx : Context) where
   unfolding generateCopy
   copy d x = look (var d) (λ y p. look (var-size d) (λ z q. look (load RAX x z) (λ i r. gives (copies p q r))))
 
+  zero-extending : (d : VarId) (x : IrOp) → Closed (ZeroExtends ctx d x) (zeroExtended ctx d x)
+  unfolding zeroExtended
+  zero-extending d x = look (load RAX x Size.U32) (λ i p. look (var d) (λ y q. look (var-size d) (λ z r. gives (zero-extends p q r))))
+
   converting : {d : VarId} {s : Source} {n : ℕ} {a b : Bool} {op : ConvOp} {z : Size} → Conversion d s n a b op z
       → Closed (Converts ctx d s n a b) (converted ctx d s op (working b) z)
   converting {d} c = look (var d) (λ y p. look (var-size d) (λ z q. gives (conversion c p q)))
@@ -294,7 +304,13 @@ module _ (ctx : Context) where
   lowers labels ret (Instr.Binary d op x y) args = implies (operates d (binaryOp op) x y) (λ b h. binary h)
   lowers labels ret (Instr.Cast d x) args =
       look (kind x) (λ k p. look (type-size (d .ty)) (λ n q. either (isCopy k (isFloat (d .ty)) n) (λ e. implies (copy d x) (λ b h. cast-copied p q e h))
-      (λ e. look (source x (k .size)) (λ s r. implies (between d (widened (k .float) s) n (k .float) (isFloat (d .ty))) (λ b h. cast p q e r h)))))
+      (λ e. either (isUnsignedShort x && not (isFloat (d .ty)))
+      (λ u. implies (zero-extending d x) (λ b h. cast-short (both (isUnsignedShort x) (not (isFloat (d .ty))) u) h))
+      (λ u. look (source x (k .size)) (λ s r. implies (between d (widened (k .float) s) n (k .float) (isFloat (d .ty))) (λ b h. cast p q e r h))))))
+    where
+      both : (a b : Bool) → (a && b) ≡ true → a ≡ true
+      both true b e = refl
+      both false b e = e
   lowers labels ret (Instr.Zero d) args = look (type-size (d .ty)) (λ n p. look (var d) (λ v q. gives (zeroed p q)))
   lowers labels ret (Instr.Call d f count) args = implies (found (call d f args)) (λ b h. called h)
   lowers labels ret (Instr.Label l) args = look (label-at labels l) (λ k p. gives (labelled p))

@@ -31,7 +31,7 @@ use Rattle.codegen.specs.Instructions.{move, Source, source, widened, ca
 use Rattle.codegen.specs.Arithmetic.{dividing, parity, ordered, unaryRecords}
 use Rattle.codegen.specs.Generation.{generateInstr, isRet, endsInRet}
 use Rattle.codegen.proofs.Results.{Yields, yields, any, bind, weaken, choose, guard, implies, values}
-use Rattle.codegen.proofs.Lowers.{copies, Converts, conversion, extension, Works, quotient, remainder, product, shifted, Sides, words, floats, swapped, Operates, one-load, two-loads, compares, Lowers, copied, unary, binary, cast-copied, cast, zeroed, called, labelled, jump, branch, returned, comment, lowers}
+use Rattle.codegen.proofs.Lowers.{copies, zero-extends, Converts, conversion, extension, Works, quotient, remainder, product, shifted, Sides, words, floats, swapped, Operates, one-load, two-loads, compares, Lowers, copied, unary, binary, cast-copied, cast-short, cast, zeroed, called, labelled, jump, branch, returned, comment, lowers}
 
 -- ---- lists
 
@@ -208,6 +208,7 @@ lowers-part (copied (copies p q r)) = record { few = omega arith; last = refl }
 lowers-part (unary {d} {op} {z = z} p q r) = part 17 (_ ∷ unaryRecords op (isFloat (d .ty)) z) _ (omega (arith, unary-few op (isFloat (d .ty)) z)) refl
 lowers-part (binary h) = wider 17 (binary-part h) (omega arith)
 lowers-part (cast-copied p q e (copies r t u)) = record { few = omega arith; last = refl }
+lowers-part (cast-short e (zero-extends p q r)) = record { few = omega arith; last = refl }
 lowers-part {ctx} (cast {x = x} {k = k} {s = s} p q e r h) = wider 17 (cast-part (widened-brief (k .float) s (source-brief ctx x (k .size) .of s r)) h) (omega arith)
 lowers-part (zeroed p q) = record { few = omega arith; last = refl }
 lowers-part {ctx} (called {d} {f} {args = args} {b} e) = call-part ctx d f args .of b e

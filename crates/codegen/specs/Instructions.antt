@@ -8,7 +8,7 @@ use Rattle.ir.specs.declared.«Type».{«Type» as IrType}
 use Rattle.ir.specs.declared.VarId.{VarId}
 use Rattle.ir.specs.declared.Operand.{Operand as IrOp}
 use Rattle.ir.specs.declared.Dest.{Dest}
-use Rattle.ir.specs.Types.{Result, ok, refused, _>>=_, typeSize, isFloat, isUnsigned}
+use Rattle.ir.specs.Types.{Result, ok, refused, _>>=_, isScalar, typeSize, isFloat, isUnsigned}
 use Rattle.x86.specs.declared.register.Register.{Register}
 use Rattle.x86.specs.declared.enums.Size.{Size}
 use Rattle.x86.specs.declared.enums.Operand.{Operand}
@@ -117,6 +117,24 @@ castBetween ctx dest s false true n = sizeFrom (s .size) >>= λ size. converted 
 castBetween ctx dest s true false n = varSize dest >>= λ size. converted ctx dest s (cond (eqb (s .size) 8) ConvOp.Cvttsd2si ConvOp.Cvttss2si) RAX size
 castBetween ctx dest s false false n = extended ctx dest s
 
+-- an unsigned short, variable or constant, which widens with zeros (02, M-105); an array is none
+abbrev pub isUnsignedShort : IrOp → Bool
+isUnsignedShort (IrOp.Var v) = isScalar (v .ty) && eqb (v .ty .code) 4
+isUnsignedShort (IrOp.Int n short unsigned) = short && unsigned
+isUnsignedShort (IrOp.Float k) = false
+isUnsignedShort (IrOp.Bool b) = false
+isUnsignedShort (IrOp.Address v) = false
+isUnsignedShort (IrOp.DataAddress k) = false
+isUnsignedShort IrOp.Null = false
+
+-- its cast to an integer of eight bytes: a four-byte load into RAX, and the store (02, M-105)
+unfoldable pub zeroExtended : Context → VarId → IrOp → Result (List Instruction)
+zeroExtended ctx dest src = do
+  load ← loadOperand ctx RAX src Size.U32
+  var ← convertVar ctx dest
+  size ← varSize dest
+  ok (load ∷ move var (Operand.Reg RAX) size ∷ [])
+
 -- the low bytes are enough: both are floats of one size, or both are integers and dest is no wider
 abbrev pub isCopy : Kind → Bool → ℕ → Bool
 isCopy k float n = (Bool·beq (k .float) float && (eqb (k .size) n || not float)) && leb n (k .size)
@@ -126,7 +144,8 @@ generateCast ctx dest src = do
   k ← operandKind ctx src
   n ← typeSize (dest .ty)
   cond (isCopy k (isFloat (dest .ty)) n) (generateCopy ctx dest src)
-      (castOperand ctx src (k .size) >>= λ s. castBetween ctx dest (widened (k .float) s) (k .float) (isFloat (dest .ty)) n)
+      (cond (isUnsignedShort src && not (isFloat (dest .ty))) (zeroExtended ctx dest src)
+      (castOperand ctx src (k .size) >>= λ s. castBetween ctx dest (widened (k .float) s) (k .float) (isFloat (dest .ty)) n))
 
 -- ---- zero
 

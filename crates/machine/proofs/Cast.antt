@@ -1,7 +1,7 @@
--- Casts: to no more bytes, a load of the low ones; to more, RAX is widened first.
+-- Casts: to no more bytes, a load of the low ones; to more, RAX is widened first, with zeros where the source is unsigned.
 use Prim.Native.Nat.{ℕ, suc, _+_, _-_, _%_, _<_, _≤_}
 use mathlib.Core.Path.{_≡_, refl, sym, ap, _∙_}
-use mathlib.Core.Bool.{Bool, true, false, cond}
+use mathlib.Core.Bool.{Bool, true, false, cond, not, _&&_, false≢true}
 use mathlib.Core.List.{List, [], _∷_, _++_}
 use lib.Dec.{eqb, leb}
 use native.Mathlib.Nat.{mod-lt, mod-mod, mod-eq-of-lt, zero-mod}
@@ -17,16 +17,18 @@ use Rattle.x86.specs.declared.enums.Operand.{Operand}
 use Rattle.x86.specs.declared.enums.ExtendOp.{ExtendOp}
 use Rattle.x86.specs.declared.enums.Instruction.{Instruction}
 use Rattle.x86.specs.Registers.{RAX}
+use Rattle.codegen.specs.Utils.{loadFrom}
+use Rattle.codegen.specs.Instructions.{isUnsignedShort}
 use Rattle.codegen.specs.Generation.{endsInRet}
 use Rattle.machine.specs.Word.{bound, sign, widen}
 use Rattle.machine.specs.Machine.{Choice, State, exec, read, merge}
-use Rattle.machine.specs.Steps.{Values, width, value, put, cast}
+use Rattle.machine.specs.Steps.{Values, width, value, put, isSigned, cast}
 use Rattle.machine.proofs.Numbers.{number-mod, bound-mod, bound-pos}
 use Rattle.machine.proofs.Run.{then}
 use Rattle.machine.proofs.Accepted.{code}
 use Rattle.machine.proofs.Plainness.{Width, one, four, eight, Scalar, PlainOperand}
 use Rattle.machine.proofs.Lowered as lowered
-use Rattle.machine.proofs.Lowered.{slot, convert, sizeIn, widening, copies, lower, eight-most}
+use Rattle.machine.proofs.Lowered.{slot, convert, sizeIn, widening, copies, zeroExtends, casting, lower, eight-most, short-is, short-width}
 use Rattle.machine.proofs.Inv.{load-sound, read-lt, sees, zeros-above}
 use Rattle.machine.proofs.Moves.{R, Ready, Land, Moves, Here, size-bytes, enter, finish}
 use Rattle.machine.proofs.Blocks.{loads, reads}
@@ -63,9 +65,25 @@ widened : (n a b r : ℕ) → n ≡ 8 → a ≡ b → a < bound 4 → merge 8 r 
 unfolding merge
 widened n a b r e q h = rw (e, ← q) (mod-mod _ (bound 8) ∙ mod-eq-of-lt (widen-lt a h))
 
+-- .. or with zeros above them, which a four-byte write of a register leaves
+cleared : (n a r : ℕ) → n ≡ 8 → a < bound 4 → merge 4 r a % bound n ≡ a
+unfolding merge
+cleared n a r e h = rw e (ap (λ (v : ℕ). v % bound 8) (mod-eq-of-lt h) ∙ mod-eq-of-lt (omega arith))
+
 -- one byte
 filled : (n a r : ℕ) → bound 1 ≤ bound n → a < bound 1 → merge 8 r a % bound n ≡ a
 filled n a r h k = ap (λ (v : ℕ). v % bound n) (zeros-above r a k) ∙ mod-eq-of-lt (omega arith)
+
+-- the sign is copied of four bytes that are no unsigned ones
+with-sign : (isFour signed : Bool) (a b : ℕ) → (isFour && not signed) ≡ false → cond (isFour && signed) a b ≡ cond isFour a b
+with-sign true true a b e = refl
+with-sign true false a b e = absurd (false≢true (sym e))
+with-sign false signed a b e = refl
+
+with-zeros : (isFour signed : Bool) (a b : ℕ) → (isFour && not signed) ≡ true → cond (isFour && signed) a b ≡ b
+with-zeros true true a b e = absurd (false≢true e)
+with-zeros true false a b e = refl
+with-zeros false signed a b e = refl
 
 module _ (tables : Tables) (F : Function) (h : Ready tables F) (o : ℕ → Choice) (s₀ : State) {m k : ℕ} {σ : Values} (l : Land tables F o s₀ m k σ)
     (d : VarId) (sc : Scalar F d) where
@@ -85,54 +103,65 @@ module _ (tables : Tables) (F : Function) (h : Ready tables F) (o : ℕ → Choi
       (ap (λ (n : ℕ). v % bound n) (sym (size-bytes (sc .type .width))) ∙ g ∙ ap (λ (n : ℕ). read n (convert F x) s) (size-bytes (sc .type .width))
       ∙ low-read n (width x) (convert F x) s q ∙ ap (λ (a : ℕ). a % bound n) (reads tables F h o s₀ l x p t))
 
-  -- what F makes of a number a of j bytes, which are fewer
+  -- what F makes of a number a of j bytes, which are fewer, where it is no unsigned short
   abbrev Widens : ℕ → ℕ → Type 0
-  Widens j a = leb n j ≡ false → Moves tables F o s₀ m k (suc k) (put σ (d .id) n (cast j n a))
+  Widens j a = leb n j ≡ false → Moves tables F o s₀ m k (suc k) (put σ (d .id) n (cond (eqb j 4) (widen 4 n a) a))
 
   wide-var : (v : VarId) {j : ℕ} → Width j
       → Here tables F k (cond (eqb j 1) (Instruction.Extend ExtendOp.Movzx RAX (slot F v) Size.U8 Size.U64)
       (Instruction.Extend ExtendOp.Movsxd RAX (slot F v) Size.U32 Size.U64) ∷ lowered.store F d RAX ∷ [])
       → (a : ℕ) → read j (slot F v) (R tables F o s₀ m) ≡ a → Widens j a
-  unfolding exec endsInRet cast
+  unfolding exec endsInRet
   wide-var v one e a q g =
-      rw g
-      (finish tables F h o s₀ d 0 a l e sc (then c o s₀ (enter tables F h o s₀ l e) refl (refl, refl, refl, refl, refl)) (omega arith) (omega arith) refl
-      (filled n _ _ (byte-fits (sc .type .width)) (read-lt 1 (slot F v) (R tables F o s₀ m)) ∙ q))
+      finish tables F h o s₀ d 0 a l e sc (then c o s₀ (enter tables F h o s₀ l e) refl (refl, refl, refl, refl, refl)) (omega arith) (omega arith) refl
+      (filled n _ _ (byte-fits (sc .type .width)) (read-lt 1 (slot F v) (R tables F o s₀ m)) ∙ q)
   wide-var v four e a q g =
-      rw g
-      (finish tables F h o s₀ d 0 (widen 4 n a) l e sc (then c o s₀ (enter tables F h o s₀ l e) refl (refl, refl, refl, refl, refl)) (omega arith) (omega arith) refl
-      (widened n _ a _ (above-four (sc .type .width) (leb-false n 4 g)) q (read-lt 4 (slot F v) (R tables F o s₀ m))))
+      finish tables F h o s₀ d 0 (widen 4 n a) l e sc (then c o s₀ (enter tables F h o s₀ l e) refl (refl, refl, refl, refl, refl)) (omega arith) (omega arith) refl
+      (widened n _ a _ (above-four (sc .type .width) (leb-false n 4 g)) q (read-lt 4 (slot F v) (R tables F o s₀ m)))
   wide-var v eight e a q g = absurd (omega (arith, leb-false n 8 g, eight-most (sc .type .width)))
 
   wide : (x : IrOp) → Here tables F k (widening F x ++ lowered.store F d RAX ∷ []) → PlainOperand F x → Widens (width x) (value x σ)
-  unfolding exec endsInRet width cast
+  unfolding exec endsInRet width
   wide (IrOp.Var v) e p g = wide-var v (p .type .width) e (value (IrOp.Var v) σ) (sees F (h .small) s₀ (l .inv) (IrOp.Var v) p) g
   wide (IrOp.Int v true unsigned) e p g =
       let t = enter tables F h o s₀ l e in
       let (u, ex, q) = loads tables F h o s₀ l 4 0 refl (IrOp.Int v true unsigned) Size.U32 p refl refl t in
       let t₁ = then c o s₀ t ex (refl, refl, refl, refl, refl) in
-      rw g
-      (finish tables F h o s₀ d 0 (widen 4 n (v % bound 4)) l e sc (then c o s₀ t₁ refl (refl, refl, refl, refl, refl)) (omega arith) (omega arith) refl
-      (widened n (u % bound 4) (v % bound 4) _ (above-four (sc .type .width) (leb-false n 4 g)) q (mod-lt u (bound-pos 4))))
+      finish tables F h o s₀ d 0 (widen 4 n (v % bound 4)) l e sc (then c o s₀ t₁ refl (refl, refl, refl, refl, refl)) (omega arith) (omega arith) refl
+      (widened n (u % bound 4) (v % bound 4) _ (above-four (sc .type .width) (leb-false n 4 g)) q (mod-lt u (bound-pos 4)))
   wide (IrOp.Int v false unsigned) e p g = absurd (omega (arith, leb-false n 8 g, eight-most (sc .type .width)))
   wide (IrOp.Float j) e p g = absurd p
   wide (IrOp.Bool b) e p g =
       let t = enter tables F h o s₀ l e in
       let (u, ex, q) = loads tables F h o s₀ l 1 0 refl (IrOp.Bool b) Size.U8 p refl refl t in
       let t₁ = then c o s₀ t ex (refl, refl, refl, refl, refl) in
-      rw g
-      (finish tables F h o s₀ d 0 (cond b 1 0) l e sc (then c o s₀ t₁ refl (refl, refl, refl, refl, refl)) (omega arith) (omega arith) refl
-      (filled n (u % bound 1) _ (byte-fits (sc .type .width)) (mod-lt u (bound-pos 1)) ∙ q))
+      finish tables F h o s₀ d 0 (cond b 1 0) l e sc (then c o s₀ t₁ refl (refl, refl, refl, refl, refl)) (omega arith) (omega arith) refl
+      (filled n (u % bound 1) _ (byte-fits (sc .type .width)) (mod-lt u (bound-pos 1)) ∙ q)
   wide (IrOp.Address v) e p g = absurd p
   wide (IrOp.DataAddress j) e p g = absurd p
   wide IrOp.Null e p g = absurd (omega (arith, leb-false n 8 g, eight-most (sc .type .width)))
 
+  -- an unsigned short
+  zeros : (x : IrOp) → Here tables F k (zeroExtends F d x) → PlainOperand F x → width x ≡ 4 → 4 < n → Moves tables F o s₀ m k (suc k) (put σ (d .id) n (value x σ))
+  unfolding exec endsInRet loadFrom
+  zeros x e p w g =
+      let s : State = R tables F o s₀ m in
+      let t = enter tables F h o s₀ l e in
+      finish tables F h o s₀ d 0 (value x σ) l e sc (then c o s₀ t refl (refl, refl, refl, refl, refl)) (omega arith) (omega arith) refl
+      (cleared n _ _ (above-four (sc .type .width) g) (read-lt 4 (convert F x) s)
+      ∙ ap (λ (j : ℕ). read j (convert F x) s) (sym w) ∙ reads tables F h o s₀ l x p t)
+
   pub casts : (x : IrOp) → Here tables F k (lower F (Instr.Cast d x)) → PlainOperand F x
-      → Moves tables F o s₀ m k (suc k) (put σ (d .id) n (cast (width x) n (value x σ)))
+      → Moves tables F o s₀ m k (suc k) (put σ (d .id) n (cast (isSigned x) (width x) n (value x σ)))
   unfolding cast
-  casts x e p = go (leb n (width x)) refl e
+  casts x e p = go (leb n (width x)) (isUnsignedShort x) refl refl e
     where
-      go : (b : Bool) → leb n (width x) ≡ b → Here tables F k (cond b (copies F d x) (widening F x ++ lowered.store F d RAX ∷ []))
-          → Moves tables F o s₀ m k (suc k) (put σ (d .id) n (cast (width x) n (value x σ)))
-      go true q e = rw q (narrow x e p (leb-true n (width x) q))
-      go false q e = wide x e p q
+      go : (b z : Bool) → leb n (width x) ≡ b → isUnsignedShort x ≡ z → Here tables F k (casting F d x b z)
+          → Moves tables F o s₀ m k (suc k) (put σ (d .id) n (cast (isSigned x) (width x) n (value x σ)))
+      go true z q r e = rw q (narrow x e p (leb-true n (width x) q))
+      go false true q r e =
+          let w : width x ≡ 4 = short-width F x p r in
+          rw (q, with-zeros (eqb (width x) 4) (isSigned x) (widen 4 n (value x σ)) (value x σ) (sym (short-is F x p) ∙ r))
+          (zeros x e p w (omega (arith, leb-false n (width x) q)))
+      go false false q r e =
+          rw (q, with-sign (eqb (width x) 4) (isSigned x) (widen 4 n (value x σ)) (value x σ) (sym (short-is F x p) ∙ r)) (wide x e p q)

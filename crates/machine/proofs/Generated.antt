@@ -1,6 +1,6 @@
 -- The records that the lowering makes of each instruction, floats and calls included: all are sound, but for labels, calls and epilogues.
 use Prim.Native.Nat.{ℕ, suc, _*_, _<_, _≤_, min, max}
-use mathlib.Core.Path.{_≡_, refl, sym, _∙_, subst}
+use mathlib.Core.Path.{_≡_, refl, sym, ap, _∙_, subst}
 use mathlib.Core.Logic.{_⊎_, inl, inr}
 use mathlib.Core.Bool.{Bool, true, false, cond, not, _&&_, _||_, Bool·beq, false≢true}
 use mathlib.Core.List.{List, [], _∷_, _++_}
@@ -35,7 +35,7 @@ use Rattle.x86.specs.Records.{conditionCode}
 use Rattle.x86.specs.Decode.{FitsRegister}
 use Rattle.codegen.specs.Context.{Context, stringAt, floatAt, floatShort, labelAt}
 use Rattle.codegen.specs.Utils.{sizeFrom, varSize, convertVar, convertOperand, sizeOr, ownSize, loadFrom, loadString, loadValue, loadOperand}
-use Rattle.codegen.specs.Instructions.{move, Kind, Source, source, operandKind, paramRegs, paramFregs, funcEpilogue, floating, castOperand, widened, isCopy, generateZero, loadArgument, loadArguments, storeResult, generateCall, generateLabel}
+use Rattle.codegen.specs.Instructions.{move, Kind, Source, source, operandKind, paramRegs, paramFregs, funcEpilogue, floating, castOperand, widened, isUnsignedShort, isCopy, generateZero, loadArgument, loadArguments, storeResult, generateCall, generateLabel}
 use Rattle.codegen.specs.Arithmetic.{dividing, parity, ordered, signBit, unaryRecords}
 use Rattle.codegen.specs.Frame.{storeOf}
 use Rattle.codegen.specs.Generation.{generateInstr}
@@ -49,7 +49,7 @@ use Rattle.ir.proofs.Rest.{few-bytes}
 use Rattle.machine.proofs.Tests.{both, every-at, each-or}
 use Rattle.machine.proofs.Frame.{contextWith, At, var-at}
 use Rattle.codegen.proofs.Results.{Yields, yields, refuses, bind, weaken, choose, guard, implies, values}
-use Rattle.codegen.proofs.Lowers.{Copies, copies, working, Conversion, between-floats, to-float, from-float, Converts, conversion, extension, calculations, comparisons, Works, quotient, remainder, product, shifted, Sides, words, floats, swapped, Operates, one-load, two-loads, compares, Lowers, copied, unary, binary, cast-copied, cast, zeroed, called, labelled, jump, branch, returned, comment, lowers}
+use Rattle.codegen.proofs.Lowers.{Copies, copies, ZeroExtends, zero-extends, working, Conversion, between-floats, to-float, from-float, Converts, conversion, extension, calculations, comparisons, Works, quotient, remainder, product, shifted, Sides, words, floats, swapped, Operates, one-load, two-loads, compares, Lowers, copied, unary, binary, cast-copied, cast-short, cast, zeroed, called, labelled, jump, branch, returned, comment, lowers}
 use Rattle.machine.proofs.Run.{All, all-append, all-map}
 use Rattle.machine.proofs.Sound.{Sound, SoundOperand, Given, Usable, tame, isCall, either, slot-sound, into-register, into-slot, extends, load-sound}
 
@@ -316,6 +316,14 @@ scalar-bytes : (ty : IrType) → isScalar ty ≡ true → bytes ty ≡ elementWi
 unfolding bytes
 scalar-bytes ty h = rw h
 
+-- an unsigned short has four bytes
+short-bytes : (ty : IrType) → (isScalar ty && eqb (ty .code) 4) ≡ true → 4 ≤ castBytes ty
+unfolding elementWidth
+short-bytes ty e =
+    let h = both (isScalar ty) (eqb (ty .code) 4) e in
+    let z : bytes ty ≡ 4 = scalar-bytes ty (h .0) ∙ ap elementWidth (eqb-true (ty .code) 4 (h .1)) in
+    omega (arith, own-cast ty)
+
 -- a variable that is cast, and not copied or widened from one byte, has the bytes that are touched
 cast-few : (u d : IrType) → eqb (elementWidth (u .code)) 0 ≡ false
     → (((Bool·beq (isFloat u) (isFloat d) && (eqb (bytes u) (bytes d) || not (isFloat d))) && leb (bytes d) (bytes u)) ≡ false)
@@ -484,6 +492,14 @@ module _ (tables : Tables) (vars : List IrType) (N : Naming) (Q : Type 0) where
   copied-few x k float n w q e =
       let t = both (Bool·beq (k .float) float && (eqb (k .size) n || not float)) (leb n (k .size)) e in
       of-var _ x (λ u i. given-less (N false) u (omega (arith, leb-true n (k .size) (t .1), (rw i at q) .0, own-cast (u .ty))) (rw i at w))
+
+  -- .. or is an unsigned short, which is loaded by four bytes
+  short-few : (x : IrOp) → GivenCast x → isUnsignedShort x ≡ true → GivenOperand (N false) 4 x
+  short-few x w e = of-var _ x (λ u i. given-less (N false) u (short-bytes (u .ty) (rw i at e)) (rw i at w))
+
+  zero-extending : {d : VarId} {x : IrOp} {b : List Instruction} → ZeroExtends ctx d x b → GivenVar d → GivenOperand (N false) 4 x → (Q → SmallOperand x)
+      → All (Sound vars N Q) b
+  zero-extending {x = x} (zero-extends {load} p q r) g w h = (load-at RAX x Size.U32 ax w h .of load p, (stored BinOp.Mov _ RAX q r g (lit< tt), tt))
 
   touches : (x : IrOp) (k : Kind) (s : Source) (d : IrType) (n : ℕ) → KindOf x k → SizeIs x (s .size) (k .size) → n ≡ bytes d → isCopy k (isFloat d) n ≡ false
       → (not (k .float) && eqb (s .size) 1) ≡ false → Touchable x (castTouches (k .float) (isFloat d) (s .size) n)
@@ -789,6 +805,9 @@ module _ (tables : Tables) (vars : List IrType) (Q : Type 0) where
       let N : Naming = Names tables (Instr.Cast d x) args in
       let few = copied-few tables vars N Q x k (isFloat (d .ty)) n (cast-source N x (λ v w z. z)) (kind-of context x .of k p) e in
       copying tables vars N Q c (whole-var (N true) d (λ v w z. z)) (rw (type-size-is (d .ty) .of n q .0) at few) h
+  made-of (cast-short {d} {x} {args} e c) h =
+      let N : Naming = Names tables (Instr.Cast d x) args in
+      zero-extending tables vars N Q c (whole-var (N true) d (λ v w z. z)) (short-few tables vars N Q x (cast-source N x (λ v w z. z)) e) h
   made-of (cast {d} {x} {args} {k} {n} {s} p q e r c) h =
       let N : Naming = Names tables (Instr.Cast d x) args in
       let brought = brings tables vars N Q x (k .size) (cast-source N x (λ v w z. z)) h .of s r in

@@ -24,7 +24,7 @@ use Rattle.x86.specs.declared.enums.ExtendOp.{ExtendOp}
 use Rattle.x86.specs.declared.enums.Instruction.{Instruction}
 use Rattle.x86.specs.Registers.{gpr, RAX, RCX}
 use Rattle.codegen.specs.Utils.{loadFrom}
-use Rattle.codegen.specs.Instructions.{funcEpilogue}
+use Rattle.codegen.specs.Instructions.{funcEpilogue, isUnsignedShort}
 use Rattle.codegen.specs.Arithmetic.{unaryRecords}
 use Rattle.codegen.specs.Generation.{endsInRet}
 use Rattle.machine.specs.Word.{W}
@@ -35,7 +35,7 @@ use Rattle.machine.specs.Simulation.{recordsOfLines}
 use Rattle.machine.proofs.Run.{Known, Fit, all-append}
 use Rattle.machine.proofs.Accepted.{Accepted, records, front, whole, tail, code}
 use Rattle.machine.proofs.Plainness.{Width, one, four, eight, Scalar, FourBytes, Near, Long, PlainOperand, PlainBinary, PlainInstr, Meant}
-use Rattle.machine.proofs.Lowered.{slot, convert, sizeIn, load, general-load, store, simple, compares, two, divides, multiplies, shifts, rightOf, lowerBinary, widening, copies, lower, lowered, operand-width, eight-most}
+use Rattle.machine.proofs.Lowered.{slot, convert, sizeIn, load, general-load, store, simple, compares, two, divides, multiplies, shifts, rightOf, lowerBinary, widening, casting, copies, lower, lowered, operand-width, eight-most, short-width}
 use Rattle.machine.proofs.Prologue.{near-slot, sized, front-known}
 use Rattle.machine.proofs.Lines.{front-framed}
 use Rattle.machine.proofs.Slots.{frame-le}
@@ -234,11 +234,12 @@ module _ (F : Function) (small : depth (F .vars) ≤ 1048576) where
   lower-known (Instr.Unary d op x) (s, h, e) =
       (operand-known _ 0 x refl (s .type .width) h e, all-append Known (unaryRecords op false (sizeIn d)) _ (unary-known d op s) (store-known d 0 refl s, tt))
   lower-known (Instr.Binary d op x y) (s, h, k, e, p, q) = binary-known d x y s h k (binaryOp op) e p
-  lower-known (Instr.Cast d x) (s, h, z) = go (leb (types.bytes (d .ty)) (width x)) refl
+  lower-known (Instr.Cast d x) (s, h, z) = go (leb (types.bytes (d .ty)) (width x)) (isUnsignedShort x) refl refl
     where
-      go : (b : Bool) → leb (types.bytes (d .ty)) (width x) ≡ b → Fit (cond b (copies F d x) (widening F x ++ store F d RAX ∷ []))
-      go true q = (load-known 0 (convert F x) refl (s .type .width) (castable _ x h z), (store-known d 0 refl s, tt))
-      go false q = widening-known d x s h (leb-false (types.bytes (d .ty)) (width x) q)
+      go : (b c : Bool) → leb (types.bytes (d .ty)) (width x) ≡ b → isUnsignedShort x ≡ c → Fit (casting F d x b c)
+      go true c q r = (load-known 0 (convert F x) refl (s .type .width) (castable _ x h z), (store-known d 0 refl s, tt))
+      go false true q r = (operand-known 4 0 x refl four h (short-width F x h r), (store-known d 0 refl s, tt))
+      go false false q r = widening-known d x s h (leb-false (types.bytes (d .ty)) (width x) q)
   lower-known (Instr.Zero d) h = (rw (slot-near d (h .there)), (refl, (refl, (refl, tt))))
   lower-known (Instr.Call d f count) h = absurd h
   lower-known (Instr.Label l) h = (refl, tt)

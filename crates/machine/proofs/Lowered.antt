@@ -1,12 +1,12 @@
 -- The records of a plain instruction, written out: what the lowering gives for it.
 use Prim.Native.Nat.{ℕ, _<_, _≤_}
-use mathlib.Core.Path.{_≡_, refl, ap, _∙_}
+use mathlib.Core.Path.{_≡_, refl, sym, ap, _∙_}
 use mathlib.Core.Bool.{Bool, true, false, cond, not, _&&_, _||_}
 use mathlib.Core.List.{List, [], _∷_, _++_}
 use lib.Dec.{eqb, leb, ltb}
 use lib.ListN.{length, drop}
 use native.Mathlib.Omega.{arith}
-use borrow.Author.Tests.{leb-false, ltb-true, lt-leb}
+use borrow.Author.Tests.{leb-false, ltb-true, lt-leb, eqb-true}
 use Rattle.ir.specs.declared.«Type».{«Type» as IrType}
 use Rattle.ir.specs.declared.VarId.{VarId}
 use Rattle.ir.specs.declared.Operand.{Operand as IrOp}
@@ -29,13 +29,14 @@ use Rattle.x86.specs.declared.enums.Instruction.{Instruction}
 use Rattle.x86.specs.Registers.{gpr, RAX, RCX, RDX, RDI, rbpPlus}
 use Rattle.codegen.specs.Context.{Context}
 use Rattle.codegen.specs.Utils.{sizeFrom, varSize, convertVar, convertOperand, sizeOr, isOneByte, isConstant, ownSize, loadFrom, loadValue, loadOperand}
-use Rattle.codegen.specs.Instructions.{move, kind, operandKind, source, funcEpilogue, generateReturn, generateCopy, castOperand, widened, castBetween, generateCast, generateZero, generateJmpIfNot, generateJump}
+use Rattle.codegen.specs.Instructions.{move, kind, operandKind, source, funcEpilogue, generateReturn, generateCopy, castOperand, widened, castBetween, isUnsignedShort, zeroExtended, generateCast, generateZero, generateJmpIfNot, generateJump}
 use Rattle.codegen.specs.Arithmetic.{simpleOperation, twoLoads, dividing, division, multiplication, shift, unsignedCode, compared, comparison, integerBinary, generateBinary, unaryRecords, generateUnary}
 use Rattle.codegen.specs.Generation.{generateInstr}
 use Rattle.machine.specs.Frames.{slotOf}
 use Rattle.machine.specs.Steps.{width, isSigned, isSignedType}
 use Rattle.machine.specs.Simulation.{contextFor}
 use Rattle.codegen.proofs.Results.{Yields, yields, bind}
+use Rattle.machine.proofs.Tests.{both}
 use Rattle.machine.proofs.Frame.{displacement-is}
 use Rattle.machine.proofs.Accepted.{Accepted, records}
 use Rattle.machine.proofs.Generated.{labels-at, label-made}
@@ -129,7 +130,7 @@ lowerBinary F BinaryOp.Mul d x y = two F d x y (multiplies d) RAX
 lowerBinary F BinaryOp.Div d x y = two F d x y (divides d) RAX
 lowerBinary F BinaryOp.Rem d x y = two F d x y (divides d) RDX
 
--- a cast to more bytes: RAX is widened first, a constant in RAX
+-- a cast to more bytes, but for an unsigned short: RAX is widened first, a constant in RAX
 abbrev pub widening : Function → IrOp → List Instruction
 widening F (IrOp.Var v) =
     cond (eqb (bytes (v .ty)) 1) (Instruction.Extend ExtendOp.Movzx RAX (slot F v) Size.U8 Size.U64)
@@ -145,11 +146,18 @@ widening F IrOp.Null = []
 abbrev pub copies : Function → VarId → IrOp → List Instruction
 copies F d x = load F RAX x (sizeIn d) ∷ store F d RAX ∷ []
 
+abbrev pub zeroExtends : Function → VarId → IrOp → List Instruction
+zeroExtends F d x = load F RAX x Size.U32 ∷ store F d RAX ∷ []
+
+-- a cast, by whether dest has no more bytes, and whether the source is an unsigned short
+abbrev pub casting : Function → VarId → IrOp → Bool → Bool → List Instruction
+casting F d x narrow short = cond narrow (copies F d x) (cond short (zeroExtends F d x) (widening F x ++ store F d RAX ∷ []))
+
 abbrev pub lower : Function → Instr → List Instruction
 lower F (Instr.Copy d x) = copies F d x
 lower F (Instr.Unary d op x) = load F RAX x (sizeIn d) ∷ unaryRecords op false (sizeIn d) ++ store F d RAX ∷ []
 lower F (Instr.Binary d op x y) = lowerBinary F (binaryOp op) d x y
-lower F (Instr.Cast d x) = cond (leb (bytes (d .ty)) (width x)) (copies F d x) (widening F x ++ store F d RAX ∷ [])
+lower F (Instr.Cast d x) = casting F d x (leb (bytes (d .ty)) (width x)) (isUnsignedShort x)
 lower F (Instr.Zero d) =
     Instruction.Lea (slot F d) RDI Size.NoSize ∷ move (Operand.Reg RCX) (Operand.Imm (bytes (d .ty))) Size.U64 ∷ move (Operand.Reg RAX) (Operand.Imm 0) Size.U64
     ∷ Instruction.Prefix Prefix.Rep StringOp.Stos Size.U8 ∷ []
@@ -198,6 +206,22 @@ operand-width F (IrOp.Bool b) h = one
 operand-width F (IrOp.Address v) h = absurd h
 operand-width F (IrOp.DataAddress k) h = absurd h
 operand-width F IrOp.Null h = eight
+
+-- the unsigned shorts are the unsigned ones of four bytes
+pub short-is : (F : Function) (x : IrOp) → PlainOperand F x → isUnsignedShort x ≡ (eqb (width x) 4 && not (isSigned x))
+unfolding width
+short-is F (IrOp.Var v) h = h .type .short
+short-is F (IrOp.Int v true true) h = refl
+short-is F (IrOp.Int v true false) h = refl
+short-is F (IrOp.Int v false unsigned) h = refl
+short-is F (IrOp.Float k) h = absurd h
+short-is F (IrOp.Bool b) h = refl
+short-is F (IrOp.Address v) h = absurd h
+short-is F (IrOp.DataAddress k) h = absurd h
+short-is F IrOp.Null h = refl
+
+pub short-width : (F : Function) (x : IrOp) → PlainOperand F x → isUnsignedShort x ≡ true → width x ≡ 4
+short-width F x h e = eqb-true (width x) 4 (both (eqb (width x) 4) (not (isSigned x)) (sym (short-is F x h) ∙ e) .0)
 
 module _ (tables : Tables) (F : Function) where
   abbrev ctx : Context
@@ -309,10 +333,6 @@ module _ (tables : Tables) (F : Function) where
   unfolding generateReturn
   return-is ret x e h = rw (e, load-is RAX x Size.NoSize h)
 
-  -- to no more bytes the low ones are copied
-  abbrev casting : VarId → IrOp → Bool → List Instruction
-  casting d x b = cond b (copies F d x) (widening F x ++ store F d RAX ∷ [])
-
   extend-var : (d v : VarId) {n : ℕ} → Scalar F d → Width n → n < bytes (d .ty)
       → castBetween ctx d (widened false (source [] (slot F v) n)) false false (bytes (d .ty))
       ≡ ok (cond (eqb n 1) (Instruction.Extend ExtendOp.Movzx RAX (slot F v) Size.U8 Size.U64)
@@ -334,15 +354,21 @@ module _ (tables : Tables) (F : Function) where
   extend-is d (IrOp.DataAddress j) s h k = absurd h
   extend-is d IrOp.Null s h k = absurd (omega (arith, eight-most (s .type .width)))
 
+  zero-extended-is : (d : VarId) (x : IrOp) → Scalar F d → PlainOperand F x → zeroExtended ctx d x ≡ ok (zeroExtends F d x)
+  unfolding zeroExtended
+  zero-extended-is d x s h = rw (load-is RAX x Size.U32 h, var-is d (s .at .there), size-is d (s .type))
+
   cast-is : (d : VarId) (x : IrOp) → Scalar F d → PlainOperand F x → generateCast ctx d x ≡ ok (lower F (Instr.Cast d x))
   unfolding generateCast
-  cast-is d x s h = rw (kind-is x h, s .type .sized, s .type .whole) (go (leb (bytes (d .ty)) (width x)) refl)
+  cast-is d x s h = rw (kind-is x h, s .type .sized, s .type .whole) (go (leb (bytes (d .ty)) (width x)) (isUnsignedShort x) refl)
     where
-      go : (b : Bool) → leb (bytes (d .ty)) (width x) ≡ b
+      go : (b z : Bool) → leb (bytes (d .ty)) (width x) ≡ b
           → cond ((true && (eqb (width x) (bytes (d .ty)) || true)) && b) (generateCopy ctx d x)
-          (castOperand ctx x (width x) >>= λ s. castBetween ctx d (widened false s) false false (bytes (d .ty))) ≡ ok (casting d x b)
-      go true e = rw (or-true (eqb (width x) (bytes (d .ty)))) (copy-is d x s h)
-      go false e = rw (or-true (eqb (width x) (bytes (d .ty)))) (extend-is d x s h (leb-false (bytes (d .ty)) (width x) e))
+          (cond (z && true) (zeroExtended ctx d x) (castOperand ctx x (width x) >>= λ s. castBetween ctx d (widened false s) false false (bytes (d .ty))))
+          ≡ ok (casting F d x b z)
+      go true z e = rw (or-true (eqb (width x) (bytes (d .ty)))) (copy-is d x s h)
+      go false true e = rw (or-true (eqb (width x) (bytes (d .ty)))) (zero-extended-is d x s h)
+      go false false e = rw (or-true (eqb (width x) (bytes (d .ty)))) (extend-is d x s h (leb-false (bytes (d .ty)) (width x) e))
 
   -- ---- all of them
 

@@ -49,6 +49,7 @@ pub record ScalarType (ty : IrType) : Type 0 where
   pub whole : isFloat ty ≡ false
   pub elf : elfSize ty ≡ elementSize (bytes ty)
   pub sign : isUnsigned ty ≡ not (isSignedType ty)
+  pub short : (isScalar ty && eqb (ty .code) 4) ≡ (eqb (bytes ty) 4 && not (isSignedType ty))
 
 abbrev scalar : ℕ → IrType
 scalar k = record { code = k; count = noArray }
@@ -59,14 +60,14 @@ scalar-type ty e f =
     let z : scalar (ty .code) ≡ ty = λ i. record { code = ty .code; count = sym (eqb-true (ty .count) noArray e) i } in
     subst ScalarType z
     (plain-code (λ k. ScalarType (scalar k)) (ty .code) f
-    (record { scalar = refl; width = eight; sized = refl; whole = refl; elf = refl; sign = refl })
-    (record { scalar = refl; width = eight; sized = refl; whole = refl; elf = refl; sign = refl })
-    (record { scalar = refl; width = four; sized = refl; whole = refl; elf = refl; sign = refl })
-    (record { scalar = refl; width = four; sized = refl; whole = refl; elf = refl; sign = refl })
-    (record { scalar = refl; width = one; sized = refl; whole = refl; elf = refl; sign = refl })
-    (record { scalar = refl; width = one; sized = refl; whole = refl; elf = refl; sign = refl })
-    (record { scalar = refl; width = one; sized = refl; whole = refl; elf = refl; sign = refl })
-    (record { scalar = refl; width = eight; sized = refl; whole = refl; elf = refl; sign = refl }))
+    (record { scalar = refl; width = eight; sized = refl; whole = refl; elf = refl; sign = refl; short = refl })
+    (record { scalar = refl; width = eight; sized = refl; whole = refl; elf = refl; sign = refl; short = refl })
+    (record { scalar = refl; width = four; sized = refl; whole = refl; elf = refl; sign = refl; short = refl })
+    (record { scalar = refl; width = four; sized = refl; whole = refl; elf = refl; sign = refl; short = refl })
+    (record { scalar = refl; width = one; sized = refl; whole = refl; elf = refl; sign = refl; short = refl })
+    (record { scalar = refl; width = one; sized = refl; whole = refl; elf = refl; sign = refl; short = refl })
+    (record { scalar = refl; width = one; sized = refl; whole = refl; elf = refl; sign = refl; short = refl })
+    (record { scalar = refl; width = eight; sized = refl; whole = refl; elf = refl; sign = refl; short = refl }))
 
 -- every plain type has a width
 plain-size : (ty : IrType) → isPlainCode (ty .code) ≡ true → typeSize ty ≡ ok (bytes ty)

@@ -121,9 +121,10 @@ unary UnaryOp.Neg n a = (bound n - a) % bound n
 unary UnaryOp.BitNot n a = invert n a
 unary UnaryOp.Not n a = bitXor n a 1
 
--- a number of n bytes as one of m bytes: narrowing keeps low bytes, one byte widens with zeros, four with the sign
-unfoldable pub cast : ℕ → ℕ → ℕ → ℕ
-cast n m a = cond (leb m n) (a % bound m) (cond (eqb n 4) (widen 4 m a) a)
+-- a number of n bytes as one of m bytes: narrowing keeps low bytes; one byte widens with zeros, four with the sign where the operand is signed, else
+-- with zeros (02, M-105)
+unfoldable pub cast : Bool → ℕ → ℕ → ℕ → ℕ
+cast signed n m a = cond (leb m n) (a % bound m) (cond (eqb n 4 && signed) (widen 4 m a) a)
 
 -- ---- states
 
@@ -212,7 +213,7 @@ unfoldable pub exec : Function → Instr → State → State
 exec F (Instr.Copy d x) s = assign F d (value x (s .vals)) s
 exec F (Instr.Unary d op x) s = assign F d (unary op (width x) (value x (s .vals))) s
 exec F (Instr.Binary d op x y) s = execBinary F d (binaryOp op) x y s
-exec F (Instr.Cast d x) s = assign F d (cast (width x) (bytes (d .ty)) (value x (s .vals))) s
+exec F (Instr.Cast d x) s = assign F d (cast (isSigned x) (width x) (bytes (d .ty)) (value x (s .vals))) s
 exec F (Instr.Zero d) s = assign F d 0 s
 exec F (Instr.Call d symbol count) s = ended stuck s
 exec F (Instr.Label l) s = arrive F (suc (s .next)) (s .vals)
