@@ -34,6 +34,7 @@ const USAGE: &str = "usage: oracle answer < CELLS
        oracle cases SEED COUNT
        oracle list OUT
        oracle show FILE [N]
+       oracle held FILE
        oracle processor SEED COUNT
        oracle runs SEED COUNT
 with the engine linked in:
@@ -66,6 +67,7 @@ fn command(words: &[&str]) -> Result<(), String> {
             let case = cases.get(number(n)? as usize).ok_or("no such case")?;
             print(case.to_string().as_bytes())
         }
+        ["held", file] => print(show::held_cases(&cases_of(file)?).as_bytes()),
         ["processor", seed, count] => {
             let summary = processor::test(number(seed)?, number(count)? as usize, lower::list)?;
             print(summary.as_bytes())

@@ -4,6 +4,7 @@ use std::collections::BTreeMap;
 use std::fmt::{self, Display, Formatter, Write};
 
 use crate::compact::Case;
+use crate::lower::held;
 use crate::read::{read_sheet, read_tables};
 use crate::sheet::*;
 
@@ -26,6 +27,20 @@ pub fn summary(cases: &[Case]) -> String {
     writeln!(text, "torn: {}", count(|case| case.sheet.len() % 8 + case.tables.len() % 8 > 0))
         .expect("text grows");
     text
+}
+
+/// Which cases each rule alters, by their numbers from 0.
+pub fn held_cases(cases: &[Case]) -> String {
+    let mut numbers: BTreeMap<&str, Vec<String>> = BTreeMap::new();
+    for (number, case) in cases.iter().enumerate() {
+        for request in held(&case.tables, &case.sheet) {
+            numbers.entry(request).or_default().push(number.to_string());
+        }
+    }
+    let line = |(request, numbers): (&str, Vec<String>)| {
+        format!("{request}, {} cases: {}\n", numbers.len(), numbers.join(" "))
+    };
+    numbers.into_iter().map(line).collect()
 }
 
 impl Display for Case {

@@ -31,6 +31,10 @@ fn short(value: i64) -> Operand {
     Operand::Int { value, short: true, unsigned: false }
 }
 
+fn unsigned_short(value: i64) -> Operand {
+    Operand::Int { value, short: true, unsigned: true }
+}
+
 /// Variable k has code k + 1, up to Address; then Byte[2], Byte[3] and Byte[0].
 fn sheet(body: Vec<Instr>) -> Sheet {
     let mut variables: Vec<Type> = (LONG..=ADDRESS).map(Type::scalar).collect();
@@ -162,8 +166,12 @@ fn value(variable: Type, body: Vec<Instr>) -> u64 {
 
 #[test]
 fn case_10_widening() {
-    let dest = var(0, LONG);
-    assert_eq!(value(dest.ty, vec![Instr::Cast { dest, src: short(4_294_967_295) }]), u64::MAX);
+    for code in [LONG, UNSIGNED_LONG] {
+        let dest = var(0, code);
+        let widened = |src| value(dest.ty, vec![Instr::Cast { dest, src }]);
+        assert_eq!(widened(short(4_294_967_295)), u64::MAX);
+        assert_eq!(widened(unsigned_short(4_294_967_295)), 4_294_967_295);
+    }
 }
 
 #[test]
@@ -299,6 +307,38 @@ fn short_floats_at_their_size() {
     let copy = block(Instr::Copy { dest: own(FLOAT), src: Operand::Float(1) });
     assert_eq!(copy[0], [0, 0, 1, 0, 7, 1, 8, 0]);
     assert_eq!(lowered(&sheet(vec![Instr::Return(Operand::Float(2))])), Err((5, 1)));
+}
+
+#[test]
+fn unsigned_shorts_widen_with_zeros() {
+    let cast = |dest, src| block(Instr::Cast { dest, src });
+    let slot = |var: Variable| -sheet(vec![]).offsets()[var.id as usize];
+    let (constant, from) = (unsigned_short(-1), slot(own(UNSIGNED_SHORT)));
+    // every dest of eight bytes that is no float
+    for dest in [own(LONG), own(UNSIGNED_LONG), own(ADDRESS), array(0, UNSIGNED_SHORT, 2)] {
+        let store = [0, 0, RBP_PLUS, slot(dest), 1, 0, 8, 0];
+        let load = [0, 0, 1, 0, RBP_PLUS, from, 4, 0];
+        assert_eq!(cast(dest, read(UNSIGNED_SHORT)), [load, store]);
+        assert_eq!(cast(dest, constant), [[0, 0, 1, 0, 2, -1, 4, 0], store]);
+        // what is no unsigned short stays Krc's: a signed one, an array of four bytes
+        assert_eq!(cast(dest, read(SHORT))[0][..2], [7, 1]);
+        assert_eq!(cast(dest, short(-1)).len(), 3);
+        let one = Operand::Var(array(3, UNSIGNED_SHORT, 1));
+        assert_eq!(cast(dest, one), [[7, 1, 1, 0, RBP_PLUS, from, 8, 4], store]);
+    }
+    // to a float, to four bytes and to fewer nothing alters
+    let to_float = cast(own(FLOAT), read(UNSIGNED_SHORT));
+    assert_eq!(to_float[0], [5, 2, 1, 16, RBP_PLUS, from, 4, 0]);
+    assert_eq!(cast(own(FLOAT), constant).len(), 3);
+    assert_eq!(cast(own(SHORT), read(UNSIGNED_SHORT))[1][6], 4);
+    assert_eq!(cast(own(BYTE), constant)[1][6], 1);
+    // the source is looked up before dest, and dest's width last
+    let refused = |dest, src| refusal(Instr::Cast { dest, src });
+    let lost = Operand::Var(beyond(UNSIGNED_SHORT));
+    assert_eq!(refused(array(0, BYTE, 9), lost), 5);
+    assert_eq!(refused(array(0, BYTE, 9), constant), 6);
+    assert_eq!(refused(array(13, BYTE, 9), constant), 5);
+    assert_eq!(refused(var(0, CUSTOM), lost), 4);
 }
 
 #[test]

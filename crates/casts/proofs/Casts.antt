@@ -19,14 +19,14 @@ use Rattle.x86.specs.Registers.{xmm, RAX}
 use Rattle.codegen.specs.Context.{Context}
 use Rattle.codegen.specs.Utils.{sizeFrom, varSize, convertVar, convertOperand, loadOperand, loadValue}
 use Rattle.codegen.specs.Instructions as spec
-use Rattle.codegen.specs.Instructions.{source, operandKind, generateCopy, castOperand, widened, converted, extended, castBetween, isCopy, generateCast}
+use Rattle.codegen.specs.Instructions.{source, operandKind, generateCopy, castOperand, widened, converted, extended, castBetween, isUnsignedShort, zeroExtended, isCopy, generateCast}
 use Rattle.utils.specs.declared.CountResult.{CountResult}
-use Rattle.utils.specs.Sources.{loadOf}
+use Rattle.utils.specs.Sources.{sourceOf, loadOf}
 use Rattle.utils.specs.Makes.{listed, Makes}
-use Rattle.utils.proofs.Sources.{rung}
+use Rattle.utils.proofs.Sources.{rung, sized}
 use Rattle.casts.specs.declared.Source.{Source}
 use Rattle.casts.specs.declared.Stored.{Stored}
-use Rattle.casts.specs.Casts.{sourceFrom, constantSize, movzx, movsxd, sourceRecords, sourceSays, castSource, lookStore, storeOp, convertedOf, isExtended, extendedOf, integerToFloat, floatToInteger}
+use Rattle.casts.specs.Casts.{sourceFrom, constantSize, movzx, movsxd, sourceRecords, sourceSays, castSource, lookStore, storeOp, convertedOf, isExtended, extendedOf, zeroExtendedOf, integerToFloat, floatToInteger}
 
 -- ---- the source
 
@@ -99,6 +99,15 @@ cond-not false x y = refl
 pub extended-looked : (ctx : Context) (dest : VarId) (s : spec.Source) → extended ctx dest s ≡ listed (lookStore ctx dest) (extendedOf s)
 extended-looked ctx dest s = rung (convertVar ctx dest) _ _ _ (λ v. rung (varSize dest) _ _ _ (λ z. ap (λ (w : List Instruction). ok (s .records ++ w ++ spec.move v (Operand.Reg RAX) z ∷ [])) (cond-not (eqb (s .size) 8) [] (movsxd (s .operand) ∷ []))))
 
+module _ (ctx : Context) (dest : VarId) (src : IrOp) where
+  pub zero-extended-looked : {x : Operand} → sourceOf ctx src ≡ ok x → zeroExtended ctx dest src ≡ listed (lookStore ctx dest) (zeroExtendedOf x)
+  unfolding zeroExtended
+  zero-extended-looked e = rw (sized ctx RAX src Size.U32 (λ z. refl), e) (rung (convertVar ctx dest) _ _ _ (λ v. rung (varSize dest) _ _ _ (λ z. refl)))
+
+  pub no-load : {n : ℕ} → sourceOf ctx src ≡ refused n → zeroExtended ctx dest src ≡ refused n
+  unfolding zeroExtended
+  no-load e = rw (sized ctx RAX src Size.U32 (λ z. refl), e)
+
 -- ---- how many records they are
 
 pub two-behind : (is : List Instruction) (i j : Instruction) → length (is ++ i ∷ j ∷ []) ≡ length is + 2
@@ -158,9 +167,14 @@ module _ (ctx : Context) (dest : VarId) (src : IrOp) where
       is-copied g = rw (e, f, g)
 
       module _ (g : isCopy k (isFloat (dest .ty)) n ≡ false) where
+        pub is-zero-extended : (not (isFloat (dest .ty)) && isUnsignedShort src) ≡ true → generateCast ctx dest src ≡ zeroExtended ctx dest src
+        unfolding generateCast
+        is-zero-extended z = rw (e, f, g, z)
+
+      module _ (g : isCopy k (isFloat (dest .ty)) n ≡ false) (z : (not (isFloat (dest .ty)) && isUnsignedShort src) ≡ false) where
         pub is-cast : {s : spec.Source} → castSource ctx src k ≡ ok s → generateCast ctx dest src ≡ castBetween ctx dest s (k .float) (isFloat (dest .ty)) n
         unfolding generateCast
-        is-cast {s} h = rw (e, f, g) (go (castOperand ctx src (k .size)) h)
+        is-cast {s} h = rw (e, f, g, z) (go (castOperand ctx src (k .size)) h)
           where
             go : (r : Result spec.Source) → (r >>= λ x. ok (widened (k .float) x)) ≡ ok s
                 → (r >>= λ x. castBetween ctx dest (widened (k .float) x) (k .float) (isFloat (dest .ty)) n) ≡ castBetween ctx dest s (k .float) (isFloat (dest .ty)) n
@@ -169,7 +183,7 @@ module _ (ctx : Context) (dest : VarId) (src : IrOp) where
 
         pub no-source : {m : ℕ} → castSource ctx src k ≡ refused m → generateCast ctx dest src ≡ refused m
         unfolding generateCast
-        no-source {m} h = rw (e, f, g) (go (castOperand ctx src (k .size)) h)
+        no-source {m} h = rw (e, f, g, z) (go (castOperand ctx src (k .size)) h)
           where
             go : (r : Result spec.Source) → (r >>= λ x. ok (widened (k .float) x)) ≡ refused m
                 → (r >>= λ x. castBetween ctx dest (widened (k .float) x) (k .float) (isFloat (dest .ty)) n) ≡ refused m

@@ -15,6 +15,7 @@ use utils::kinds::operand_kind;
 use utils::mov;
 use utils::put_load;
 use utils::size_from;
+use utils::source_at;
 use utils::var_size_at;
 use x86::enums::BinOp;
 use x86::enums::ConvOp;
@@ -26,17 +27,17 @@ use x86::record::put_instruction;
 use x86::register::Register;
 ghost use mathlib.Core.Path.{_≡_};
 ghost use Prim.Native.Nat.{_+_, _*_, _≤_};
-ghost use mathlib.Core.Bool.{true, false, cond};
+ghost use mathlib.Core.Bool.{true, false, cond, not, _&&_};
 ghost use lib.ListN.{length};
 ghost use Rattle.cells.specs.Cells.{cells, write};
 ghost use Rattle.ir.specs.Types.{ok};
 ghost use Rattle.ir.specs.Function.{varAt, operandAt};
 ghost use Rattle.x86.specs.Records.{listBytes};
-ghost use Rattle.codegen.specs.Instructions.{operandKind, converted, extended, castBetween, isCopy, generateCast};
+ghost use Rattle.codegen.specs.Instructions.{operandKind, converted, extended, castBetween, isUnsignedShort, zeroExtended, isCopy, generateCast};
 ghost use Rattle.utils.specs.Answers.{lent};
 ghost use Rattle.utils.specs.Kinds.{kindSays};
 ghost use Rattle.utils.specs.Makes.{Makes, Ready};
-ghost use Rattle.casts.specs.Casts.{isConstant, isByte, constantSize, movzx, sourceRecords, sourceOperand, sourceSize, sourceSays, sourceResultSays, castSource, storedSays, lookStore, storeOp, convertedOf, isExtended, extendedOf, floatToFloat, integerToFloat, floatToInteger};
+ghost use Rattle.casts.specs.Casts.{isConstant, isByte, constantSize, movzx, sourceRecords, sourceOperand, sourceSize, sourceSays, sourceResultSays, castSource, storedSays, lookStore, storeOp, convertedOf, isExtended, extendedOf, floatToFloat, integerToFloat, floatToInteger, zeroExtendedOf};
 
 // What is cast: its operand; whether it is a constant, which goes through RAX; whether it is one byte that is no float, which is widened there; and its
 // size in bytes before that.
@@ -434,6 +435,70 @@ fn cast_between(
     extended(tables, offsets, s, k, from, out, at, write)
 }
 
+// An unsigned short, variable or constant; an array is none.
+fn is_unsigned_short(op: IrOp) -> bool
+    ensures { λ r. ⌜ r ≡ isUnsignedShort op ⌝ }
+{
+    match op {
+        IrOp::Var(v) => {
+            let ty = v.ty;
+            if ty.is_scalar() { ty.code == 4 } else { false }
+        }
+        IrOp::Int(_, short, unsigned) => { if short { unsigned } else { false } }
+        IrOp::Float(_) => false,
+        IrOp::Bool(_) => false,
+        IrOp::Address(_) => false,
+        IrOp::DataAddress(_) => false,
+        IrOp::Null => false,
+    }
+}
+
+// Whether a cast that is no copy widens with zeros.
+fn is_zero_extended(op: IrOp, to: bool) -> bool
+    ensures { λ r. ⌜ r ≡ (not to && isUnsignedShort op) ⌝ }
+{
+    if to { false } else { is_unsigned_short(op) }
+}
+
+fn put_zero_extended(out: &mut [u8], at: usize, src: Operand, t: Stored)
+    requires { ⌜ at + 64 * length (zeroExtendedOf src t) ≤ length (now out) ⌝ }
+    ensures { λ _. ⌜ now (out .exit) ≡ write (now (out .entry)) at (listBytes (zeroExtendedOf src t)) ⌝ }
+{
+    let var = t.var;
+    let size = t.size;
+    put_load(out, at, Register::RAX, src, Size::U32);
+    put_instruction(out, at + 64, mov(var, Operand::Reg(Register::RAX), size));
+}
+
+// An unsigned short to an integer of eight bytes: a four-byte load clears the upper half of RAX.
+fn zero_extended(
+    tables: &[u8],
+    offsets: &[u64],
+    s: &[u8],
+    k: usize,
+    out: &mut [u8],
+    at: usize,
+    write: bool,
+) -> CountResult
+    requires { ⌜ k + 13 ≤ cells (now s) ⌝ }
+    requires { ⌜ Ready write (zeroExtended (lent (now tables) (now offsets)) (varAt (now s) (k + 2)) (operandAt (now s) (k + 5))) at (length (now out)) ⌝ }
+    ensures { λ r. ⌜ Makes write (zeroExtended (lent (now (tables .entry)) (now (offsets .entry))) (varAt (now (s .entry)) (k + 2)) (operandAt (now (s .entry)) (k + 5))) at (now (out .entry)) (now (out .exit)) r ⌝ }
+{
+    let src = match source_at(tables, offsets, s, k + 5) {
+        OperandResult::Is(src) => src,
+        OperandResult::Refused(n) => return CountResult::Refused(n),
+    };
+    match look_store(tables, offsets, s, k) {
+        StoredResult::Is(t) => {
+            if write {
+                put_zero_extended(out, at, src, t);
+            }
+            CountResult::Records(2)
+        }
+        StoredResult::Refused(n) => CountResult::Refused(n),
+    }
+}
+
 // The low bytes are enough: both are floats of one size, or both are integers and dest is no wider.
 fn is_copy(k: Kind, float: bool, n: u64) -> bool
     ensures { λ r. ⌜ r ≡ isCopy (kindSays k) float n ⌝ }
@@ -472,6 +537,9 @@ pub fn generate_cast(
     };
     if is_copy(kind, to, n) {
         return generate_copy(tables, offsets, s, k, out, at, write);
+    }
+    if is_zero_extended(operand_at(s, k + 5), to) {
+        return zero_extended(tables, offsets, s, k, out, at, write);
     }
     let from = match cast_operand(tables, offsets, s, k, kind) {
         SourceResult::Is(from) => from,

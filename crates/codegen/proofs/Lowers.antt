@@ -1,7 +1,7 @@
 -- What an instruction is lowered to: what its maker looked up, and the list that it then gave. Every answer is such a list or a refusal by 4 to 8.
 use Prim.Native.Nat.{ℕ, suc}
 use mathlib.Core.Path.{_≡_, refl}
-use mathlib.Core.Bool.{Bool, true, false, cond, not, _&&_}
+use mathlib.Core.Bool.{Bool, true, false, cond, not, _&&_, false≢true}
 use mathlib.Core.List.{List, [], _∷_, _++_}
 use lib.Dec.{ltb, eqb}
 use lib.ListN.{length, getD}
@@ -297,6 +297,10 @@ module _ (ctx : Context) where
 
   -- ---- every answer
 
+  second : (a b : Bool) → (a && b) ≡ true → b ≡ true
+  second true b e = e
+  second false b e = absurd (false≢true e)
+
   pub lowers : (labels : ℕ) (ret : IrType) (i : Instr) (args : List IrOp) → Closed (Lowers ctx labels ret i args) (generateInstr ctx labels ret i args)
   unfolding generateInstr generateUnary generateCast generateZero generateLabel generateJump generateJmpIfNot generateReturn
   lowers labels ret (Instr.Copy d x) args = implies (copy d x) (λ b h. copied h)
@@ -304,13 +308,9 @@ module _ (ctx : Context) where
   lowers labels ret (Instr.Binary d op x y) args = implies (operates d (binaryOp op) x y) (λ b h. binary h)
   lowers labels ret (Instr.Cast d x) args =
       look (kind x) (λ k p. look (type-size (d .ty)) (λ n q. either (isCopy k (isFloat (d .ty)) n) (λ e. implies (copy d x) (λ b h. cast-copied p q e h))
-      (λ e. either (isUnsignedShort x && not (isFloat (d .ty)))
-      (λ u. implies (zero-extending d x) (λ b h. cast-short (both (isUnsignedShort x) (not (isFloat (d .ty))) u) h))
+      (λ e. either (not (isFloat (d .ty)) && isUnsignedShort x)
+      (λ u. implies (zero-extending d x) (λ b h. cast-short (second (not (isFloat (d .ty))) (isUnsignedShort x) u) h))
       (λ u. look (source x (k .size)) (λ s r. implies (between d (widened (k .float) s) n (k .float) (isFloat (d .ty))) (λ b h. cast p q e r h))))))
-    where
-      both : (a b : Bool) → (a && b) ≡ true → a ≡ true
-      both true b e = refl
-      both false b e = e
   lowers labels ret (Instr.Zero d) args = look (type-size (d .ty)) (λ n p. look (var d) (λ v q. gives (zeroed p q)))
   lowers labels ret (Instr.Call d f count) args = implies (found (call d f args)) (λ b h. called h)
   lowers labels ret (Instr.Label l) args = look (label-at labels l) (λ k p. gives (labelled p))

@@ -144,7 +144,7 @@ generateCast ctx dest src = do
   k ← operandKind ctx src
   n ← typeSize (dest .ty)
   cond (isCopy k (isFloat (dest .ty)) n) (generateCopy ctx dest src)
-      (cond (isUnsignedShort src && not (isFloat (dest .ty))) (zeroExtended ctx dest src)
+      (cond (not (isFloat (dest .ty)) && isUnsignedShort src) (zeroExtended ctx dest src)
       (castOperand ctx src (k .size) >>= λ s. castBetween ctx dest (widened (k .float) s) (k .float) (isFloat (dest .ty)) n))
 
 -- ---- zero

@@ -364,7 +364,7 @@ module _ (tables : Tables) (F : Function) where
     where
       go : (b z : Bool) → leb (bytes (d .ty)) (width x) ≡ b
           → cond ((true && (eqb (width x) (bytes (d .ty)) || true)) && b) (generateCopy ctx d x)
-          (cond (z && true) (zeroExtended ctx d x) (castOperand ctx x (width x) >>= λ s. castBetween ctx d (widened false s) false false (bytes (d .ty))))
+          (cond z (zeroExtended ctx d x) (castOperand ctx x (width x) >>= λ s. castBetween ctx d (widened false s) false false (bytes (d .ty))))
           ≡ ok (casting F d x b z)
       go true z e = rw (or-true (eqb (width x) (bytes (d .ty)))) (copy-is d x s h)
       go false true e = rw (or-true (eqb (width x) (bytes (d .ty)))) (zero-extended-is d x s h)

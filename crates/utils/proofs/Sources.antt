@@ -114,7 +114,7 @@ sourced ctx reg (IrOp.Address v) size = refl
 sourced ctx reg (IrOp.DataAddress k) size = a-string reg (sizeOr size (ownSize ctx (IrOp.DataAddress k))) (stringAt ctx k)
 sourced ctx reg IrOp.Null size = refl
 
-sized : (ctx : Context) (reg : Register) (op : IrOp) (size : Size) → Given size → loadOperand ctx reg op size ≡ (sourceOf ctx op >>= λ src. ok (loadOf reg src size))
+pub sized : (ctx : Context) (reg : Register) (op : IrOp) (size : Size) → Given size → loadOperand ctx reg op size ≡ (sourceOf ctx op >>= λ src. ok (loadOf reg src size))
 sized ctx reg op size h = rw (h (ownSize ctx op)) at (sourced ctx reg op size)
 
 -- .. that is a load of a size that is given

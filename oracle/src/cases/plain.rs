@@ -160,15 +160,16 @@ impl Builder<'_> {
     }
 
     fn condition(&mut self) -> Operand {
-        match self.source_bool() {
+        match self.source_of(BOOL) {
             Some(var) if self.rng.chance(9, 10) => Operand::Var(var),
             _ => Operand::Bool(self.rng.flag()),
         }
     }
 
-    fn source_bool(&mut self) -> Option<Variable> {
-        let is_bool = |id: &usize| self.sheet.variables[*id] == Type::scalar(BOOL);
-        let ids: Vec<usize> = (0..self.sheet.variables.len()).filter(is_bool).collect();
+    /// A variable to read, of a code.
+    fn source_of(&mut self, code: i64) -> Option<Variable> {
+        let is_of = |id: &usize| self.sheet.variables[*id] == Type::scalar(code);
+        let ids: Vec<usize> = (0..self.sheet.variables.len()).filter(is_of).collect();
         (!ids.is_empty()).then(|| self.sheet.variable(self.rng.pick(&ids)))
     }
 }
@@ -248,6 +249,9 @@ impl Builder<'_> {
     }
 
     fn cast(&mut self) -> Option<Instr> {
+        if self.rng.chance(1, 3) {
+            return self.page_number();
+        }
         let dest = self.scalar_dest()?;
         let to = dest.ty.size()?;
         let wide = matches!(dest.ty.code, LONG | UNSIGNED_LONG);
@@ -257,6 +261,20 @@ impl Builder<'_> {
             self.operand(from, SHORT_LOW, SHORT_HIGH)
         } else {
             self.any_operand(from)
+        };
+        Some(Instr::Cast { dest, src })
+    }
+
+    /// An unsigned short to eight bytes; of constants those that are negative as signed ones.
+    fn page_number(&mut self) -> Option<Instr> {
+        let is_long = |ty| [LONG, UNSIGNED_LONG].map(Type::scalar).contains(&ty);
+        let dest = self.dest(is_long)?;
+        let src = match self.source_of(UNSIGNED_SHORT) {
+            Some(var) if self.rng.chance(2, 3) => Operand::Var(var),
+            _ => {
+                let value = self.within(IMMEDIATE_HIGH + 1, SHORT_HIGH);
+                Operand::Int { value, short: true, unsigned: true }
+            }
         };
         Some(Instr::Cast { dest, src })
     }

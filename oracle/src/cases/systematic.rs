@@ -115,7 +115,8 @@ fn all_operands() -> Vec<Operand> {
 }
 
 fn instrs() -> Vec<Instr> {
-    [copies(), unaries(), binaries(), comparisons(), casts(), calls(), others()].concat()
+    let casts = [casts(), widening()].concat();
+    [copies(), unaries(), binaries(), comparisons(), casts, calls(), others()].concat()
 }
 
 /// Dests that meet every operand.
@@ -200,6 +201,17 @@ fn casts() -> Vec<Instr> {
         }
     }
     all
+}
+
+/// Four bytes to every dest: unsigned shorts that are negative as signed ones, and what is none, signed ones and arrays.
+fn widening() -> Vec<Instr> {
+    let constants = [1 << 31, (1 << 32) - 1, -1].into_iter();
+    let constants = constants.flat_map(|value| [true, false].map(|flag| int(value, true, flag)));
+    let arrays = [(UNSIGNED_SHORT, 1), (SHORT, 1), (BYTE, 4)];
+    let arrays = arrays.map(|(code, count)| Variable { id: 3, ty: Type::array(code, count) });
+    let sources: Vec<Operand> = constants.chain(arrays.map(Operand::Var)).collect();
+    let to = |dest: Variable| sources.iter().map(move |src| Instr::Cast { dest, src: *src });
+    dests().into_iter().flat_map(to).collect()
 }
 
 fn calls() -> Vec<Instr> {

@@ -1,11 +1,29 @@
 //! What requests of 02 take from Krc's authority: each rule is a piece of its own, written from 02, and sets its cells in Krc's own list.
 
 mod short_floats;
+mod unsigned_shorts;
 
 use crate::sheet::{Sheet, Tables};
 use krc::record::Record;
 
-/// Sets what the rules say; all other cells stay Krc's.
-pub fn apply(tables: &Tables, sheet: &Sheet, list: &mut [Record]) {
-    short_floats::apply(tables, sheet, list);
+/// Sets what a rule says; all other cells stay Krc's.
+type Rule = fn(&Tables, &Sheet, &mut Vec<Record>);
+
+const RULES: [(&str, Rule); 2] =
+    [("M-102", short_floats::apply), ("M-105", unsigned_shorts::apply)];
+
+pub fn apply(tables: &Tables, sheet: &Sheet, list: &mut Vec<Record>) {
+    for (_, rule) in RULES {
+        rule(tables, sheet, list);
+    }
+}
+
+/// The requests whose rule alone would alter Krc's own list.
+pub fn held(tables: &Tables, sheet: &Sheet, krc: &[Record]) -> Vec<&'static str> {
+    let alters = |rule: Rule| {
+        let mut list = krc.to_vec();
+        rule(tables, sheet, &mut list);
+        list != krc
+    };
+    RULES.into_iter().filter(|(_, rule)| alters(*rule)).map(|(request, _)| request).collect()
 }

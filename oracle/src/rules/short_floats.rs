@@ -19,7 +19,7 @@ const CALL: i64 = 1;
 const FLOAT: i64 = 7;
 
 /// Sets the size cell of these loads.
-pub fn apply(tables: &Tables, sheet: &Sheet, list: &mut [Record]) {
+pub fn apply(tables: &Tables, sheet: &Sheet, list: &mut Vec<Record>) {
     returns(tables, list);
     arguments(tables, sheet, list);
 }
