@@ -1,5 +1,7 @@
 -- The twelve cases, by computation.
-use mathlib.Core.Path.{refl}
+use Prim.Native.Nat.{ℕ}
+use mathlib.Core.Path.{refl, sym, ap₂, _∙_}
+use mathlib.Core.List.{List, _++_, map-append}
 use Rattle.cells.specs.Cells.{bytesOf, word, half, readCell, readWithin}
 use Rattle.ir.specs.Types.{bytes, lastOffset, typeSize, isFloat, isUnsigned, elementWidth, elfSize, operandSize}
 use Rattle.layout.specs.Layout.{endCheck, floatsCheck, tablesCheck, limited, countCheck, zerosCheck, fieldsCheck, typeCheck, returnCheck, varCheck, operandCheck, operandsCheck, destCheck, sideCheck, callCheck, bodyCheck, instrCheck, typesCheck, varsCheck, instrsCheck, listsCheck, restCheck, sheetCheck}
@@ -7,7 +9,7 @@ use Rattle.ir.specs.Function.{binaryOp, tablesOf, operandAt, unaryOp, instrAt, 
 use Rattle.x86.specs.Records.{recordOf, recordBytes, listBytes}
 use Rattle.codegen.specs.Context.{displacement, stringAt, floatAt, floatShort, labelAt}
 use Rattle.codegen.specs.Utils.{sizeFrom, varSize, convertVar, convertOperand, ownSize, loadFrom, loadString, loadValue, loadOperand}
-use Rattle.codegen.specs.Instructions.{generateReturn, operandKind, generateCopy, castOperand, castBetween, generateCast, generateZero, loadArgument, loadArguments, storeResult, generateCall, generateJmpIfNot, generateLabel, generateJump}
+use Rattle.codegen.specs.Instructions.{generateReturn, operandKind, generateCopy, castOperand, castBetween, zeroExtended, generateCast, generateZero, loadArgument, loadArguments, storeResult, generateCall, generateJmpIfNot, generateLabel, generateJump}
 use Rattle.codegen.specs.Arithmetic.{simpleOperation, floatOperation, twoLoads, division, multiplication, shift, unsignedCode, compared, floatComparison, comparison, generateBinary, generateUnary}
 use Rattle.codegen.specs.Frame.{offsetsFrom, haveWidths, varOffsets, storeParams, funcPrologue}
 use Rattle.codegen.specs.Generation.{generateInstr, generateBody, endsInRet, withEpilogue, generate, compiled, lowered, recordsAfter}
@@ -16,8 +18,32 @@ use Rattle.machine.specs.Encodings.{known}
 use Rattle.machine.specs.Machine as x86
 use Rattle.machine.specs.Steps as steps
 use Rattle.machine.specs.Frames.{offsetFrom}
-use Rattle.cases.specs.Cases.{Hold}
+use Rattle.cases.specs.Cases.{Case, lists, answers, runs, HoldIn, Hold}
+
+join : (a b : List Case) → HoldIn a → HoldIn b → HoldIn (a ++ b)
+join a b p q =
+    map-append (λ (c : Case). c .given) a b ∙ ap₂ (λ (x y : List (List ℕ)). x ++ y) p q ∙ sym (map-append (λ (c : Case). c .expected) a b)
+
+-- what the cases compute with: to unfold this is to unfold all of it
+opened : Type 0
+unfolding bytesOf word half readCell readWithin bytes typeSize isFloat isUnsigned elementWidth elfSize operandSize endCheck floatsCheck tablesCheck limited countCheck zerosCheck fieldsCheck typeCheck returnCheck varCheck operandCheck operandsCheck destCheck sideCheck callCheck bodyCheck instrCheck typesCheck varsCheck instrsCheck listsCheck restCheck sheetCheck binaryOp tablesOf operandAt unaryOp instrAt argumentsAt behind typesAt varsAt operandsAt linesAt functionOf recordOf recordBytes listBytes displacement stringAt floatAt floatShort labelAt sizeFrom varSize convertVar convertOperand ownSize loadFrom loadString loadValue loadOperand generateReturn operandKind generateCopy castOperand castBetween zeroExtended generateCast generateZero loadArgument loadArguments storeResult generateCall generateJmpIfNot generateLabel generateJump simpleOperation floatOperation twoLoads division multiplication shift unsignedCode compared floatComparison comparison generateBinary generateUnary offsetsFrom lastOffset haveWidths varOffsets storeParams funcPrologue generateInstr generateBody endsInRet withEpilogue generate compiled lowered recordsAfter number bitwise known x86.merge x86.find x86.exec x86.run steps.width steps.binary steps.unary steps.cast steps.find steps.exec steps.run offsetFrom
+opened = Unit {0}
+
+lists-hold : HoldIn lists
+unfolding opened
+lists-hold = refl
+
+answers-hold : HoldIn answers
+unfolding opened
+answers-hold = refl
+
+runs-hold : HoldIn runs
+unfolding opened
+runs-hold = refl
 
 pub twelve : Hold
-unfolding bytesOf word half readCell readWithin bytes typeSize isFloat isUnsigned elementWidth elfSize operandSize endCheck floatsCheck tablesCheck limited countCheck zerosCheck fieldsCheck typeCheck returnCheck varCheck operandCheck operandsCheck destCheck sideCheck callCheck bodyCheck instrCheck typesCheck varsCheck instrsCheck listsCheck restCheck sheetCheck binaryOp tablesOf operandAt unaryOp instrAt argumentsAt behind typesAt varsAt operandsAt linesAt functionOf recordOf recordBytes listBytes displacement stringAt floatAt floatShort labelAt sizeFrom varSize convertVar convertOperand ownSize loadFrom loadString loadValue loadOperand generateReturn operandKind generateCopy castOperand castBetween generateCast generateZero loadArgument loadArguments storeResult generateCall generateJmpIfNot generateLabel generateJump simpleOperation floatOperation twoLoads division multiplication shift unsignedCode compared floatComparison comparison generateBinary generateUnary offsetsFrom lastOffset haveWidths varOffsets storeParams funcPrologue generateInstr generateBody endsInRet withEpilogue generate compiled lowered recordsAfter number bitwise known x86.merge x86.find x86.exec x86.run steps.width steps.binary steps.unary steps.cast steps.find steps.exec steps.run offsetFrom
-twelve = record { table = refl; entered = record { going = refl; first = refl; aligned = refl; upward = refl } }
+twelve =
+    record {
+      table = join lists (answers ++ runs) lists-hold (join answers runs answers-hold runs-hold);
+      entered = record { going = refl; first = refl; aligned = refl; upward = refl };
+    }

@@ -1,4 +1,4 @@
--- Believed: it is 01's table of twelve cases, what the definitions give beside what 01 says. Sheets are given by their cells, values by a run. No other
+-- Believed: it is 01's table of twelve cases as 02 has it, what the definitions give beside what the papers say. Sheets are given by their cells, values by a run. No other
 -- claim rests on it.
 use Prim.Native.Nat.{ℕ, _+_, _*_}
 use mathlib.Core.Path.{_≡_}
@@ -48,12 +48,15 @@ bool = 7 ∷ minus 1 ∷ []
 abbrev pub byteArray : ℕ → List ℕ
 byteArray n = 9 ∷ n ∷ []
 
--- operands: a variable, a signed constant that is short or long, float constant 0, nothing
+-- operands: a variable, a constant that is short or long, signed or not, float constant 0, nothing
 abbrev pub var : ℕ → List ℕ → List ℕ
 var id ty = 0 ∷ id ∷ ty
 
 abbrev pub int : ℕ → ℕ → List ℕ
 int v isShort = 1 ∷ v ∷ isShort ∷ 0 ∷ []
+
+abbrev pub unsignedInt : ℕ → ℕ → List ℕ
+unsignedInt v isShort = 1 ∷ v ∷ isShort ∷ 1 ∷ []
 
 abbrev pub float : List ℕ
 float = 2 ∷ 0 ∷ 0 ∷ 0 ∷ []
@@ -152,8 +155,8 @@ calling args = sheet 0 0 1 (instr 5 0 noDest (0 ∷ length args ∷ 0 ∷ 0 ∷ 
 abbrev pub lessThan : List ℕ → List ℕ
 lessThan ty = sheet 2 0 1 (bool ++ ty ++ instr 2 7 (0 ∷ bool) (var 1 ty) (var 1 ty))
 
-abbrev pub castShort : List ℕ
-castShort = sheet 1 0 2 (long ++ instr 3 0 (0 ∷ long) (int 4294967295 1) nothing ++ instr 9 0 noDest (var 0 long) nothing)
+abbrev pub castToLong : List ℕ → List ℕ
+castToLong constant = sheet 1 0 2 (long ++ instr 3 0 (0 ∷ long) constant nothing ++ instr 9 0 noDest (var 0 long) nothing)
 
 abbrev pub shiftedBy : ℕ → List ℕ
 shiftedBy k = sheet 1 0 2 (short ++ instr 2 11 (0 ∷ short) (int 1 1) (int k 1) ++ instr 9 0 noDest (var 0 short) nothing)
@@ -167,8 +170,9 @@ pub record Case : Type 0 where
 abbrev pub case : List ℕ → List ℕ → Case
 case a b = record { given = a; expected = b }
 
-abbrev pub cases : List Case
-cases =
+-- whole lists and their frames
+abbrev pub lists : List Case
+lists =
     -- the listing: `ok`, the record count, and a line of eight cells a record
     case (summary (answer listing) ++ cellsOf listing)
     (0 ∷ 8
@@ -189,22 +193,38 @@ cases =
     -- sizes 4, 0, 4: offsets 4, 4, 8
     ∷ case (offsetsOf (sheet 3 0 0 (short ++ byteArray 0 ++ short))) (4 ∷ 4 ∷ 8 ∷ 4 ∷ 4 ∷ 8 ∷ [])
     -- total 1,048,576 lowers, one more is 3, with the count cell that passes it
-    ∷ case (summary (answer (sheet 2 0 0 (byteArray 1048575 ++ bool))) ++ summary (answer (sheet 2 0 0 (byteArray 1048576 ++ bool)))) (0 ∷ 6 ∷ 3 ∷ 9 ∷ [])
+    ∷ case (summary (answer (sheet 2 0 0 (byteArray 1048575 ++ bool))) ++ summary (answer (sheet 2 0 0 (byteArray 1048576 ++ bool)))) (0 ∷ 6 ∷ 3 ∷ 9 ∷ []) ∷ []
+
+-- instructions
+abbrev pub answers : List Case
+answers =
     -- six plain and eight float arguments lower, a seventh plain is 8
-    ∷ case (summary (answerBy oneFloat (calling (replicate 6 (int 5 0) ++ replicate 8 float))) ++ summary (answer (calling (replicate 7 (int 5 0)))))
+    case (summary (answerBy oneFloat (calling (replicate 6 (int 5 0) ++ replicate 8 float))) ++ summary (answer (calling (replicate 7 (int 5 0)))))
     (0 ∷ 22 ∷ 8 ∷ 1 ∷ [])
     -- logical And is 7
     ∷ case (summary (answer (sheet 1 0 1 (bool ++ instr 2 1 (0 ∷ bool) (var 0 bool) (var 0 bool))))) (7 ∷ 1 ∷ [])
     -- Lt on unsigned long uses code 8, on long 4: the operation of the seventh record, SetCC
-    ∷ case (getD (cellsOf (lessThan unsignedLong)) 49 0 ∷ getD (cellsOf (lessThan long)) 49 0 ∷ []) (8 ∷ 4 ∷ [])
-    -- short 4294967295 cast to long is -1
-    ∷ case (returned castShort 2 10) (8 ∷ minus 1 ∷ minus 1 ∷ [])
+    ∷ case (getD (cellsOf (lessThan unsignedLong)) 49 0 ∷ getD (cellsOf (lessThan long)) 49 0 ∷ []) (8 ∷ 4 ∷ []) ∷ []
+
+-- values, and the epilogue
+abbrev pub runs : List Case
+runs =
+    -- short 4294967295 cast to long is -1, and 4294967295 when the constant is unsigned (02, M-105)
+    case (returned (castToLong (int 4294967295 1)) 2 10 ++ returned (castToLong (unsignedInt 4294967295 1)) 2 9)
+    (8 ∷ minus 1 ∷ minus 1 ∷ 8 ∷ 4294967295 ∷ 4294967295 ∷ [])
     -- short 1 shifted left by 32 is 1, by 33 is 2
     ∷ case (returned (shiftedBy 32) 2 11 ++ returned (shiftedBy 33) 2 11) (4 ∷ 1 ∷ 1 ∷ 4 ∷ 2 ∷ 2 ∷ [])
     -- Return then Comment adds no second epilogue
     ∷ case (summary (answer (sheet 0 0 2 (instr 9 0 noDest (int 0 0) nothing ++ instr 10 0 noDest nothing nothing)))) (0 ∷ 7 ∷ []) ∷ []
 
--- what the definitions give is what 01 says, in every case, and the runs start where a caller by the ABI may
+abbrev pub cases : List Case
+cases = lists ++ (answers ++ runs)
+
+-- what the definitions give is what the papers say, in each of some cases
+abbrev pub HoldIn : List Case → Type 0
+HoldIn cs = map (λ (c : Case). c .given) cs ≡ map (λ (c : Case). c .expected) cs
+
+-- .. in every case, and the runs start where a caller by the ABI may
 pub record Hold : Type 0 where
-  pub table : map (λ (c : Case). c .given) cases ≡ map (λ (c : Case). c .expected) cases
+  pub table : HoldIn cases
   pub entered : Entry entry
