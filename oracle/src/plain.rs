@@ -134,10 +134,8 @@ fn binary_is_plain(sheet: &Sheet, op: i64, dest: Variable, left: Operand, right:
         return dest.ty == Type::scalar(BOOL);
     }
     let in_range = long_constant(right).is_none_or(|v| (SHORT_LOW..=IMMEDIATE_HIGH).contains(&v));
-    let unsigned = !matches!(dest.ty.code, LONG | SHORT);
     dest_width == width
         && (in_range || !binary::takes_immediate(op))
-        && (unsigned || !matches!(op, binary::DIV | binary::REM))
         && (width != 1 || !matches!(op, binary::MUL | binary::REM))
 }
 

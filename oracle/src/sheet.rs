@@ -128,6 +128,10 @@ pub mod binary {
         (EQ..=GE).contains(&op)
     }
 
+    pub fn is_division(op: i64) -> bool {
+        matches!(op, DIV | REM)
+    }
+
     /// Add, Sub and the three bit operations: right is taken as it is.
     pub fn takes_immediate(op: i64) -> bool {
         matches!(op, ADD | SUB | BIT_OR | BIT_XOR | BIT_AND)

@@ -8,7 +8,7 @@ pub enum End {
     Value { value: u64, width: usize },
     /// With no instruction left.
     FellOff,
-    /// Div or Rem by zero.
+    /// Div or Rem by zero, or of the least signed value by -1.
     Fault,
     /// The bound on steps was reached.
     Unended,
@@ -44,6 +44,16 @@ pub fn run(sheet: &Sheet, variables: Vec<Vec<u8>>, bound: u64) -> Run {
         }
     }
     run
+}
+
+/// Whether a run ended by a fault of a divisor that is not zero: the least signed value by -1.
+pub fn ends_by_the_least(sheet: &Sheet, run: &Run) -> bool {
+    match sheet.body.get(run.last.wrapping_sub(1)) {
+        Some(Instr::Binary { right, .. }) if run.end == End::Fault => {
+            value(right, &run.variables).bits != 0
+        }
+        _ => false,
+    }
 }
 
 enum Flow {
@@ -107,6 +117,15 @@ impl Value {
         let unused = 64 - 8 * self.width as u32;
         ((self.bits << unused) as i64) >> unused
     }
+
+    fn is_least(self) -> bool {
+        self.as_signed() == i64::MIN >> (64 - 8 * self.width)
+    }
+}
+
+/// Shr copies the sign, and Div and Rem read both operands as signed, for a dest of these types.
+fn is_signed(ty: Type) -> bool {
+    matches!(ty.code, LONG | SHORT)
 }
 
 fn mask(width: usize) -> u64 {
@@ -119,8 +138,7 @@ fn value(operand: &Operand, variables: &[Vec<u8>]) -> Value {
             let bytes = &variables[var.id as usize];
             let mut cell = [0; 8];
             cell[..bytes.len()].copy_from_slice(bytes);
-            let signed = matches!(var.ty.code, LONG | SHORT);
-            Value::new(u64::from_le_bytes(cell), bytes.len(), signed)
+            Value::new(u64::from_le_bytes(cell), bytes.len(), is_signed(var.ty))
         }
         Operand::Int { value, short, unsigned } => {
             Value::new(*value as u64, if *short { 4 } else { 8 }, !unsigned)
@@ -144,7 +162,7 @@ fn unary_result(op: i64, bits: u64) -> u64 {
     }
 }
 
-/// The result, of which dest keeps the low bytes; none on division by zero.
+/// The result, of which dest keeps the low bytes; none where a division faults.
 fn binary_result(op: i64, dest: Type, left: Value, right: Value) -> Option<u64> {
     let (a, b) = (left.bits, right.bits);
     if binary::is_comparison(op) {
@@ -158,13 +176,29 @@ fn binary_result(op: i64, dest: Type, left: Value, right: Value) -> Option<u64> 
         binary::ADD => a.wrapping_add(b),
         binary::SUB => a.wrapping_sub(b),
         binary::MUL => a.wrapping_mul(b),
-        binary::DIV => a.checked_div(b)?,
-        binary::REM => a.checked_rem(b)?,
+        binary::DIV => divided(is_signed(dest), left, right)?.0,
+        binary::REM => divided(is_signed(dest), left, right)?.1,
         binary::SHL => a << count,
-        binary::SHR if matches!(dest.code, LONG | SHORT) => (left.as_signed() >> count) as u64,
+        binary::SHR if is_signed(dest) => (left.as_signed() >> count) as u64,
         binary::SHR => a >> count,
         op => panic!("operation {op} is not plain"),
     })
+}
+
+/// Quotient and remainder, the signed quotient toward zero and its remainder with the dividend's
+/// sign; none for a zero divisor and for the least signed value by -1.
+fn divided(signed: bool, left: Value, right: Value) -> Option<(u64, u64)> {
+    if right.bits == 0 {
+        return None;
+    }
+    if !signed {
+        return Some((left.bits / right.bits, left.bits % right.bits));
+    }
+    let (a, b) = (left.as_signed(), right.as_signed());
+    if left.is_least() && b == -1 {
+        return None;
+    }
+    Some(((a / b) as u64, (a % b) as u64))
 }
 
 fn compare(op: i64, left: Value, right: Value) -> bool {

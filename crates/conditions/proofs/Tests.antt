@@ -14,7 +14,7 @@ use Rattle.ir.specs.declared.VarId.{VarId}
 use Rattle.ir.specs.declared.Operand.{Operand}
 use Rattle.layout.proofs.Passed.{apart}
 use Rattle.ir.specs.Function.{Function, Line, BinaryOp, binaryOp}
-use Rattle.machine.specs.Plain.{isPlainCode, isUnsignedDest, isOneByte, isScalarVar, isPlainOperand, isBoolType, isPlainBinary, isPlainInstr}
+use Rattle.machine.specs.Plain.{isPlainCode, isOneByte, isScalarVar, isPlainOperand, isBoolType, isPlainBinary, isPlainInstr}
 use Rattle.conditions.specs.Parts.{isSame, isPlainPair, Counts}
 
 -- two tests in one answer, with a third behind them
@@ -109,12 +109,12 @@ module _ (d : VarId) (x y : Operand) where
   pub additive : (k : ℕ) → 13 ≤ k → k ≤ 14 → isPlainBinary (binaryOp 2) d x y ≡ isPlainBinary (binaryOp k) d x y
   additive k l h = let e : 13 + (k - 13) ≡ k = omega arith in rw e at (adding (k - 13) (omega arith))
 
-  last : (isSame d x && (isUnsignedDest d && not (isOneByte d))) ≡ isPlainBinary (binaryOp 17) d x y
+  last : (isSame d x && not (isOneByte d)) ≡ isPlainBinary (binaryOp 17) d x y
   unfolding isPlainBinary binaryOp
   last = refl
 
   -- 17 and whatever is no operation
-  pub remainder : (k : ℕ) → 17 ≤ k → (isSame d x && (isUnsignedDest d && not (isOneByte d))) ≡ isPlainBinary (binaryOp k) d x y
+  pub remainder : (k : ℕ) → 17 ≤ k → (isSame d x && not (isOneByte d)) ≡ isPlainBinary (binaryOp k) d x y
   remainder k l = last ∙ ap (λ (o : BinaryOp). isPlainBinary o d x y) (beyond k l)
 
 -- a label's count in the slice is its count among the lines

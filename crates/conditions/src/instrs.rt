@@ -9,7 +9,6 @@ use crate::vars::is_bool_type;
 use crate::vars::is_entry;
 use crate::vars::is_one_byte;
 use crate::vars::is_scalar_var;
-use crate::vars::is_unsigned_dest;
 use ir::Instr;
 use ir::Operand;
 use ir::VarId;
@@ -22,7 +21,7 @@ ghost use lib.ListN.{getD};
 ghost use Rattle.cells.specs.Cells.{cells};
 ghost use Rattle.ir.specs.Function.{Line, functionOf, paramsFrom, binaryOp};
 ghost use Rattle.machine.specs.Steps.{width};
-ghost use Rattle.machine.specs.Plain.{isUnsignedDest, isOneByte, isPlainBinary, isPlainCast, isPlainInstr};
+ghost use Rattle.machine.specs.Plain.{isOneByte, isPlainBinary, isPlainCast, isPlainInstr};
 ghost use Rattle.conditions.specs.Parts.{isSame, isPlainMove, isPlainPair, isWide, isCondition, labelOf, Counts};
 
 // BitOr, BitXor, BitAnd, Add and Sub: a long constant as right has four bytes.
@@ -36,30 +35,11 @@ fn is_plain_sum(d: VarId, x: Operand, y: Operand) -> bool
     }
 }
 
+// Mul and Rem are not one byte wide.
 fn is_plain_mul(d: VarId, x: Operand) -> bool
     ensures { λ r. ⌜ r ≡ (isSame d x && not (isOneByte d)) ⌝ }
 {
     if is_same(d, x) {
-        !is_one_byte(d)
-    } else {
-        false
-    }
-}
-
-fn is_plain_div(d: VarId, x: Operand) -> bool
-    ensures { λ r. ⌜ r ≡ (isSame d x && isUnsignedDest d) ⌝ }
-{
-    if is_same(d, x) {
-        is_unsigned_dest(d)
-    } else {
-        false
-    }
-}
-
-fn is_plain_rem(d: VarId, x: Operand) -> bool
-    ensures { λ r. ⌜ r ≡ (isSame d x && (isUnsignedDest d && not (isOneByte d))) ⌝ }
-{
-    if is_plain_div(d, x) {
         !is_one_byte(d)
     } else {
         false
@@ -79,8 +59,8 @@ fn is_plain_binary(op: u64, d: VarId, x: Operand, y: Operand) -> bool
         11..=12 => is_same(d, x),
         13..=14 => is_plain_sum(d, x, y),
         15 => is_plain_mul(d, x),
-        16 => is_plain_div(d, x),
-        _ => is_plain_rem(d, x),
+        16 => is_same(d, x),
+        _ => is_plain_mul(d, x),
     }
 }
 

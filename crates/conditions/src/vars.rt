@@ -7,7 +7,7 @@ ghost use mathlib.Core.Path.{_≡_};
 ghost use Prim.Native.Nat.{_≤_};
 ghost use Rattle.cells.specs.Cells.{cells};
 ghost use Rattle.ir.specs.Function.{functionOf, paramsFrom};
-ghost use Rattle.machine.specs.Plain.{isPlainCode, isPlainReturn, sameType, isEntry, isScalarVar, isBoolType, isUnsignedDest, isOneByte};
+ghost use Rattle.machine.specs.Plain.{isPlainCode, isPlainReturn, sameType, isEntry, isScalarVar, isBoolType, isOneByte};
 
 // An integer, Bool, Char, Byte or Address.
 pub fn is_plain_code(code: u64) -> bool
@@ -81,19 +81,6 @@ pub fn is_bool_type(ty: Type) -> bool
     ensures { λ r. ⌜ r ≡ isBoolType ty ⌝ }
 {
     if ty.code == 7 { ty.is_scalar() } else { false }
-}
-
-// Every code but 1 and 3.
-pub fn is_unsigned_dest(d: VarId) -> bool
-    ensures { λ r. ⌜ r ≡ isUnsignedDest d ⌝ }
-{
-    let ty = d.ty;
-    let code = ty.code;
-    match code {
-        1 => false,
-        3 => false,
-        _ => true,
-    }
 }
 
 pub fn is_one_byte(d: VarId) -> bool

@@ -1,7 +1,7 @@
 -- The manual has every record of a plain function's list.
 use Prim.Native.Nat.{ℕ, suc, _+_, _%_, _^_, _<_, _≤_}
 use mathlib.Core.Path.{_≡_, refl, sym, _∙_, subst}
-use mathlib.Core.Bool.{Bool, true, false, cond, _&&_}
+use mathlib.Core.Bool.{Bool, true, false, cond, not, _&&_}
 use mathlib.Core.List.{List, [], _∷_, _++_}
 use lib.Dec.{eqb, leb, ltb}
 use lib.ListN.{length, drop}
@@ -25,7 +25,7 @@ use Rattle.x86.specs.declared.enums.Instruction.{Instruction}
 use Rattle.x86.specs.Registers.{gpr, RAX, RCX}
 use Rattle.codegen.specs.Utils.{loadFrom}
 use Rattle.codegen.specs.Instructions.{funcEpilogue, isUnsignedShort}
-use Rattle.codegen.specs.Arithmetic.{unaryRecords}
+use Rattle.codegen.specs.Arithmetic.{signInto, dividing, unaryRecords}
 use Rattle.codegen.specs.Generation.{endsInRet}
 use Rattle.machine.specs.Word.{W}
 use Rattle.machine.specs.Encodings.{known, isNear, isPlaced, isSized, isGeneralOperand, isGeneralForm, isBinary}
@@ -195,7 +195,16 @@ module _ (F : Function) (small : depth (F .vars) ≤ 1048576) where
 
     divides-known : Fit (divides d)
     unfolding known
-    divides-known = (rw (sized (sizeIn d)), (rw (sized (sizeIn d)), tt))
+    divides-known = go (isSignedType (d .ty)) refl
+      where
+        signs : {n : ℕ} → Width n → (n ≡ 1 → ⊥) → Known (Instruction.Unary (signInto (elementSize n)) Operand.NoOperand (elementSize n))
+        signs one wide = absurd (wide refl)
+        signs four wide = refl
+        signs eight wide = refl
+
+        go : (b : Bool) → isSignedType (d .ty) ≡ b → Fit (dividing (not b) (sizeIn d))
+        go true e = (signs (s .type .width) (s .type .wide e), (rw (sized (sizeIn d)), tt))
+        go false e = (rw (sized (sizeIn d)), (rw (sized (sizeIn d)), tt))
 
     shift-known : (o : ShiftOp) → Fit (shifts o d)
     unfolding known
@@ -219,7 +228,7 @@ module _ (F : Function) (small : depth (F .vars) ≤ 1048576) where
     binary-known BinaryOp.Add e p = simple-known BinOp.Add (λ d x n. refl) (p .0) (sym e ∙ p .0) (p .1)
     binary-known BinaryOp.Sub e p = simple-known BinOp.Sub (λ d x n. refl) (p .0) (sym e ∙ p .0) (p .1)
     binary-known BinaryOp.Mul e p = two-known (multiplies d) 0 refl (p .0) (sym e ∙ p .0) (times-known (s .type .width) (p .1), tt)
-    binary-known BinaryOp.Div e p = two-known (divides d) 0 refl (p .0) (sym e ∙ p .0) divides-known
+    binary-known BinaryOp.Div e p = two-known (divides d) 0 refl p (sym e ∙ p) divides-known
     binary-known BinaryOp.Rem e p = two-known (divides d) 2 refl (p .0) (sym e ∙ p .0) divides-known
 
   unary-known : (d : VarId) (op : IrUnary) → Scalar F d → Fit (unaryRecords op false (sizeIn d))

@@ -20,6 +20,7 @@ pub mod Operations
 pub mod Blocks
 pub mod Cast
 pub mod Ends
+pub mod Quotients
 pub mod Division
 pub mod Start
 pub mod Outcome
@@ -41,6 +42,7 @@ pub mod Inside
 pub mod Computing
 pub mod Demand2
 pub mod SignedOrder
+pub mod SignedQuotient
 pub mod Once
 pub mod Refused
 pub mod First

@@ -12,7 +12,7 @@ use Rattle.ir.specs.declared.VarId.{VarId}
 use Rattle.ir.specs.declared.Operand.{Operand as IrOp}
 use Rattle.ir.specs.declared.UnaryOp.{UnaryOp as IrUnary}
 use Rattle.ir.specs.declared.Instr.{Instr}
-use Rattle.ir.specs.Types.{Result, ok, _>>=_, bytes, isFloat, isUnsigned, elementSize, operandSize}
+use Rattle.ir.specs.Types.{Result, ok, _>>=_, bytes, isFloat, elementSize, operandSize}
 use Rattle.ir.specs.Function.{Function, Line, Tables, BinaryOp, binaryOp}
 use Rattle.x86.specs.declared.register.Register.{Register}
 use Rattle.x86.specs.declared.enums.Size.{Size}
@@ -95,10 +95,9 @@ compares F cc d x y =
 abbrev pub two : Function → VarId → IrOp → IrOp → List Instruction → Register → List Instruction
 two F d x y operation r = load F RAX x (sizeIn d) ∷ load F RCX y (sizeIn d) ∷ operation ++ store F d r ∷ []
 
+-- by whether dest is signed
 abbrev pub divides : VarId → List Instruction
-divides d =
-    Instruction.Binary BinOp.Xor (Operand.Reg RDX) (Operand.Reg RDX) (sizeIn d)
-    ∷ Instruction.ComplexBinary ComplexBinOp.Div Operand.NoOperand (Operand.Reg RCX) (sizeIn d) ∷ []
+divides d = dividing (not (isSignedType (d .ty))) (sizeIn d)
 
 abbrev pub multiplies : VarId → List Instruction
 multiplies d = Instruction.ComplexBinary ComplexBinOp.Imul (Operand.Reg RAX) (Operand.Reg RCX) (sizeIn d) ∷ []
@@ -299,10 +298,6 @@ module _ (tables : Tables) (F : Function) where
       let w : Width (width x) = operand-width F x h in
       rw (kind-is x h, size-of w, load-at RAX x w h, load-at RCX y w k, var-is d (s .at .there), size-is d (s .type))
 
-  -- an unsigned dest
-  unsigned : (d : VarId) → Scalar F d → isSignedType (d .ty) ≡ false → isUnsigned (d .ty) ≡ true
-  unsigned d s e = s .type .sign ∙ ap not e
-
   binary-is : (op : BinaryOp) (d : VarId) (x y : IrOp) → Scalar F d → PlainOperand F x → PlainOperand F y → PlainBinary op d x y
       → integerBinary ctx d op x y ≡ ok (lowerBinary F op d x y)
   unfolding division multiplication shift
@@ -322,8 +317,8 @@ module _ (tables : Tables) (F : Function) where
   binary-is BinaryOp.Add d x y s h k p = simple-is BinOp.Add d x y s h k
   binary-is BinaryOp.Sub d x y s h k p = simple-is BinOp.Sub d x y s h k
   binary-is BinaryOp.Mul d x y s h k p = two-is d x y _ RAX s h k
-  binary-is BinaryOp.Div d x y s h k p = rw (unsigned d s (p .1)) (two-is d x y (dividing true) RAX s h k)
-  binary-is BinaryOp.Rem d x y s h k p = rw (unsigned d s (p .1)) (two-is d x y (dividing true) RDX s h k)
+  binary-is BinaryOp.Div d x y s h k p = rw (s .type .sign) (two-is d x y _ RAX s h k)
+  binary-is BinaryOp.Rem d x y s h k p = rw (s .type .sign) (two-is d x y _ RDX s h k)
 
   zero-is : (d : VarId) → Entry F d → generateZero ctx d ≡ ok (lower F (Instr.Zero d))
   unfolding generateZero

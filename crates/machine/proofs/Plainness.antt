@@ -17,7 +17,7 @@ use Rattle.ir.specs.Function.{Function, Line, BinaryOp, binaryOp}
 use Rattle.machine.specs.Word.{W}
 use Rattle.machine.specs.Steps as steps
 use Rattle.machine.specs.Steps.{width, isSignedType, isLabel}
-use Rattle.machine.specs.Plain.{every, isPlainCode, isPlainReturn, sameType, noType, isEntry, isScalarVar, isPlainHead, isShort, isSmall, isPlainOperand, longConstant, isBoolType, isBool, isUnsignedDest, isOneByte, isPlainBinary, isPlainCast, labelCount, isPlainInstr, isPlainLine, isPlainAt, areDistinct}
+use Rattle.machine.specs.Plain.{every, isPlainCode, isPlainReturn, sameType, noType, isEntry, isScalarVar, isPlainHead, isShort, isSmall, isPlainOperand, longConstant, isBoolType, isBool, isOneByte, isPlainBinary, isPlainCast, labelCount, isPlainInstr, isPlainLine, isPlainAt, areDistinct}
 use Rattle.machine.specs.Frames.{sizeOf}
 use Rattle.machine.proofs.Tests.{both, not-true, four-cases}
 use Rattle.machine.proofs.Run.{cons-not-nil}
@@ -50,6 +50,7 @@ pub record ScalarType (ty : IrType) : Type 0 where
   pub elf : elfSize ty ≡ elementSize (bytes ty)
   pub sign : isUnsigned ty ≡ not (isSignedType ty)
   pub short : (isScalar ty && eqb (ty .code) 4) ≡ (eqb (bytes ty) 4 && not (isSignedType ty))
+  pub wide : isSignedType ty ≡ true → bytes ty ≡ 1 → ⊥
 
 abbrev scalar : ℕ → IrType
 scalar k = record { code = k; count = noArray }
@@ -60,14 +61,14 @@ scalar-type ty e f =
     let z : scalar (ty .code) ≡ ty = λ i. record { code = ty .code; count = sym (eqb-true (ty .count) noArray e) i } in
     subst ScalarType z
     (plain-code (λ k. ScalarType (scalar k)) (ty .code) f
-    (record { scalar = refl; width = eight; sized = refl; whole = refl; elf = refl; sign = refl; short = refl })
-    (record { scalar = refl; width = eight; sized = refl; whole = refl; elf = refl; sign = refl; short = refl })
-    (record { scalar = refl; width = four; sized = refl; whole = refl; elf = refl; sign = refl; short = refl })
-    (record { scalar = refl; width = four; sized = refl; whole = refl; elf = refl; sign = refl; short = refl })
-    (record { scalar = refl; width = one; sized = refl; whole = refl; elf = refl; sign = refl; short = refl })
-    (record { scalar = refl; width = one; sized = refl; whole = refl; elf = refl; sign = refl; short = refl })
-    (record { scalar = refl; width = one; sized = refl; whole = refl; elf = refl; sign = refl; short = refl })
-    (record { scalar = refl; width = eight; sized = refl; whole = refl; elf = refl; sign = refl; short = refl }))
+    (record { scalar = refl; width = eight; sized = refl; whole = refl; elf = refl; sign = refl; short = refl; wide = λ h k. omega arith })
+    (record { scalar = refl; width = eight; sized = refl; whole = refl; elf = refl; sign = refl; short = refl; wide = λ h. absurd (false≢true h) })
+    (record { scalar = refl; width = four; sized = refl; whole = refl; elf = refl; sign = refl; short = refl; wide = λ h k. omega arith })
+    (record { scalar = refl; width = four; sized = refl; whole = refl; elf = refl; sign = refl; short = refl; wide = λ h. absurd (false≢true h) })
+    (record { scalar = refl; width = one; sized = refl; whole = refl; elf = refl; sign = refl; short = refl; wide = λ h. absurd (false≢true h) })
+    (record { scalar = refl; width = one; sized = refl; whole = refl; elf = refl; sign = refl; short = refl; wide = λ h. absurd (false≢true h) })
+    (record { scalar = refl; width = one; sized = refl; whole = refl; elf = refl; sign = refl; short = refl; wide = λ h. absurd (false≢true h) })
+    (record { scalar = refl; width = eight; sized = refl; whole = refl; elf = refl; sign = refl; short = refl; wide = λ h. absurd (false≢true h) }))
 
 -- every plain type has a width
 plain-size : (ty : IrType) → isPlainCode (ty .code) ≡ true → typeSize ty ≡ ok (bytes ty)
@@ -142,8 +143,8 @@ PlainBinary BinaryOp.Shr d x y = width x ≡ bytes (d .ty)
 PlainBinary BinaryOp.Add d x y = (width x ≡ bytes (d .ty)) × Long Near y
 PlainBinary BinaryOp.Sub d x y = (width x ≡ bytes (d .ty)) × Long Near y
 PlainBinary BinaryOp.Mul d x y = (width x ≡ bytes (d .ty)) × (bytes (d .ty) ≡ 1 → ⊥)
-PlainBinary BinaryOp.Div d x y = (width x ≡ bytes (d .ty)) × (isSignedType (d .ty) ≡ false)
-PlainBinary BinaryOp.Rem d x y = (width x ≡ bytes (d .ty)) × (isSignedType (d .ty) ≡ false) × (bytes (d .ty) ≡ 1 → ⊥)
+PlainBinary BinaryOp.Div d x y = width x ≡ bytes (d .ty)
+PlainBinary BinaryOp.Rem d x y = (width x ≡ bytes (d .ty)) × (bytes (d .ty) ≡ 1 → ⊥)
 
 -- a jump's label stands in the body
 abbrev pub Stands : Function → ℕ → Type 0
@@ -253,11 +254,8 @@ plain-binary op d x y = go op
     go BinaryOp.Add e = small e
     go BinaryOp.Sub e = small e
     go BinaryOp.Mul e = let h = both (eqb (width x) (bytes (d .ty))) (not (isOneByte d)) e in (same (h .0), wide d (h .1))
-    go BinaryOp.Div e = let h = both (eqb (width x) (bytes (d .ty))) (isUnsignedDest d) e in (same (h .0), not-true _ (h .1))
-    go BinaryOp.Rem e =
-        let h = both (eqb (width x) (bytes (d .ty))) (isUnsignedDest d && not (isOneByte d)) e in
-        let g = both (isUnsignedDest d) (not (isOneByte d)) (h .1) in
-        (same (h .0), not-true _ (g .0), wide d (g .1))
+    go BinaryOp.Div e = same e
+    go BinaryOp.Rem e = let h = both (eqb (width x) (bytes (d .ty))) (not (isOneByte d)) e in (same (h .0), wide d (h .1))
 
 -- the logical pair has the numbers 0 and 1
 not-logical : (op : ℕ) (d : VarId) (x y : IrOp) → PlainBinary (binaryOp op) d x y → 2 ≤ op

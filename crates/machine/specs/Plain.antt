@@ -107,10 +107,6 @@ isBool Operand.Null = false
 
 -- ---- instructions
 
--- an unsigned dest: every code but 1 and 3
-abbrev pub isUnsignedDest : VarId → Bool
-isUnsignedDest d = not (eqb (d .ty .code) 1 || eqb (d .ty .code) 3)
-
 abbrev pub isOneByte : VarId → Bool
 isOneByte d = eqb (bytes (d .ty)) 1
 
@@ -132,8 +128,8 @@ isPlainBinary BinaryOp.Shr d x y = eqb (width x) (bytes (d .ty))
 isPlainBinary BinaryOp.Add d x y = eqb (width x) (bytes (d .ty)) && longConstant isSmall y
 isPlainBinary BinaryOp.Sub d x y = eqb (width x) (bytes (d .ty)) && longConstant isSmall y
 isPlainBinary BinaryOp.Mul d x y = eqb (width x) (bytes (d .ty)) && not (isOneByte d)
-isPlainBinary BinaryOp.Div d x y = eqb (width x) (bytes (d .ty)) && isUnsignedDest d
-isPlainBinary BinaryOp.Rem d x y = eqb (width x) (bytes (d .ty)) && (isUnsignedDest d && not (isOneByte d))
+isPlainBinary BinaryOp.Div d x y = eqb (width x) (bytes (d .ty))
+isPlainBinary BinaryOp.Rem d x y = eqb (width x) (bytes (d .ty)) && not (isOneByte d)
 
 -- from four bytes to eight only for a dest of code 1 or 2; a long constant to a narrower dest lies in -2^31 to 2^32 - 1
 abbrev pub isPlainCast : VarId → Operand → Bool

@@ -135,7 +135,7 @@ pub record Follows (tables : Tables) (F : Function) (c : List Instruction) (o : 
 pub record Simulates (tables : Tables) (F : Function) (c : List Instruction) (o : ℕ → Choice) (s₀ : State) : Type 0 where
   -- for every n, after n steps of F the records have run to F's place, `most F n` of them at most
   pub follows : Follows tables F c o s₀
-  -- they fault exactly when F does, by a Div or Rem that fails
+  -- they fault exactly when F does: on a zero divisor, and of signed numbers on the least by -1
   pub faults :
       ((n : ℕ) × (steps.run F n (start F s₀) .status ≡ steps.faulted)) ↔ ((m : ℕ) × (x86.run c o m s₀ .status ≡ x86.faulted))
   -- they return exactly when F returns

@@ -13,7 +13,7 @@ use Rattle.ir.specs.declared.UnaryOp.{UnaryOp}
 use Rattle.ir.specs.declared.Instr.{Instr}
 use Rattle.ir.specs.Types.{bytes}
 use Rattle.ir.specs.Function.{Function, Line, BinaryOp, binaryOp}
-use Rattle.machine.specs.Word.{bound, byte, number, widen, invert, arithDown, rank, bitAnd, bitOr, bitXor}
+use Rattle.machine.specs.Word.{bound, byte, number, sign, widen, invert, arithDown, rank, differ, magnitude, negated, bitAnd, bitOr, bitXor}
 
 -- ---- operands
 
@@ -93,8 +93,18 @@ abbrev pub shiftRight : Bool → ℕ → ℕ → ℕ → ℕ
 shiftRight true n a k = arithDown n a k
 shiftRight false n a k = a / 2 ^ k
 
+-- Div and Rem read both operands as signed where dest is, else as unsigned (02, M-106): the quotient is rounded toward zero, and the remainder has
+-- the dividend's sign
+abbrev pub quotient : Bool → ℕ → ℕ → ℕ → ℕ
+quotient true n a b = negated (differ (sign n a) (sign n b)) n (magnitude n a / magnitude n b)
+quotient false n a b = a / b
+
+abbrev pub remainder : Bool → ℕ → ℕ → ℕ → ℕ
+remainder true n a b = negated (sign n a) n (magnitude n a % magnitude n b)
+remainder false n a b = a % b
+
 -- what a binary operation makes of two operands of n bytes, modulo 2^width; `left` says whether left's type is signed, `dest` whether dest's code is 1
--- or 3; Div and Rem read both operands as unsigned; the logical pair makes nothing
+-- or 3; the logical pair makes nothing
 unfoldable pub binary : BinaryOp → Bool → Bool → ℕ → ℕ → ℕ → ℕ
 binary BinaryOp.Or left dest n a b = 0
 binary BinaryOp.And left dest n a b = 0
@@ -112,8 +122,8 @@ binary BinaryOp.Shr left dest n a b = shiftRight dest n a (shiftBy n b)
 binary BinaryOp.Add left dest n a b = (a + b) % bound n
 binary BinaryOp.Sub left dest n a b = (a + (bound n - b)) % bound n
 binary BinaryOp.Mul left dest n a b = a * b % bound n
-binary BinaryOp.Div left dest n a b = a / b
-binary BinaryOp.Rem left dest n a b = a % b
+binary BinaryOp.Div left dest n a b = quotient dest n a b
+binary BinaryOp.Rem left dest n a b = remainder dest n a b
 
 -- Not flips the lowest bit
 unfoldable pub unary : UnaryOp → ℕ → ℕ → ℕ
@@ -198,14 +208,18 @@ isDivision BinaryOp.Mul = false
 isDivision BinaryOp.Div = true
 isDivision BinaryOp.Rem = true
 
--- where an operation ends F by a fault: Div or Rem by zero
-abbrev pub fails : BinaryOp → ℕ → Bool
-fails op b = isDivision op && eqb b 0
+-- where a division ends F by a fault (02, M-106): a zero divisor, and of signed numbers the least by -1, whose quotient n bytes do not hold
+abbrev pub isBad : Bool → ℕ → ℕ → ℕ → Bool
+isBad dest n a b = eqb b 0 || (dest && (eqb (2 * a) (bound n) && eqb (b + 1) (bound n)))
+
+-- where an operation ends F by a fault: a Div or Rem of such operands
+abbrev pub fails : BinaryOp → Bool → ℕ → ℕ → ℕ → Bool
+fails op dest n a b = isDivision op && isBad dest n a b
 
 -- the operands are taken as they were; an operation that fails changes nothing
 abbrev pub execBinary : Function → VarId → BinaryOp → Operand → Operand → State → State
 execBinary F d op x y s =
-    cond (fails op (value y (s .vals))) (ended faulted s)
+    cond (fails op (isSignedType (d .ty)) (width x) (value x (s .vals)) (value y (s .vals))) (ended faulted s)
     (assign F d (binary op (isSigned x) (isSignedType (d .ty)) (width x) (value x (s .vals)) (value y (s .vals))) s)
 
 -- one instruction

@@ -204,28 +204,56 @@ impl Builder<'_> {
     fn arithmetic(&mut self) -> Option<Instr> {
         let dest = self.scalar_dest()?;
         let width = dest.ty.size()?;
-        let op = self.operation(dest.ty, width);
+        let op = self.operation(width);
+        if binary::is_division(op) && matches!(dest.ty.code, LONG | SHORT) && self.rng.flag() {
+            let (left, right) = self.signed_sides(width);
+            return Some(Instr::Binary { op, dest, left, right });
+        }
         let left = self.any_operand(width);
         let right = match op {
-            binary::DIV | binary::REM if self.divisors == Divisors::NotZero => self.not_zero(width),
+            _ if binary::is_division(op) && self.divisors == Divisors::NotZero => {
+                self.not_zero(width)
+            }
             _ if binary::takes_immediate(op) => self.operand(width, SHORT_LOW, IMMEDIATE_HIGH),
             _ => self.any_operand(width),
         };
         Some(Instr::Binary { op, dest, left, right })
     }
 
-    /// An operation that is plain for the dest.
-    fn operation(&mut self, dest: Type, width: i64) -> i64 {
+    /// An operation that is plain for a dest of the width.
+    fn operation(&mut self, width: i64) -> i64 {
         use binary::*;
-        let signed = matches!(dest.code, LONG | SHORT);
         let ops = [BIT_OR, BIT_XOR, BIT_AND, SHL, SHR, ADD, SUB, MUL, DIV, REM];
         loop {
             let op = self.rng.pick(&ops);
-            let divides = matches!(op, DIV | REM);
-            let barred = divides && (signed || self.divisors == Divisors::None)
+            let barred = is_division(op) && self.divisors == Divisors::None
                 || width == 1 && matches!(op, MUL | REM);
             if !barred {
                 return op;
+            }
+        }
+    }
+
+    /// Both sides of a signed division, at the ends of the range and around 0.
+    fn signed_sides(&mut self, width: i64) -> (Operand, Operand) {
+        let least = if width == 4 { SHORT_LOW } else { i64::MIN };
+        let dividends = [least, least, least + 1, -7, -1, 7, -(least + 1)];
+        let divisors = [-1, -1, -1, -2, 2, 1, least];
+        let (left, right) = (self.rng.pick(&dividends), self.rng.pick(&divisors));
+        (self.signed_side(width, left), self.signed_side(width, right))
+    }
+
+    /// A constant, a short one at times as its unsigned pattern; or a variable, unless no divisor
+    /// may be 0.
+    fn signed_side(&mut self, width: i64, value: i64) -> Operand {
+        match self.source(width) {
+            Some(var) if self.divisors == Divisors::Any && self.rng.chance(1, 3) => {
+                Operand::Var(var)
+            }
+            _ => {
+                let short = width == 4;
+                let value = if short && self.rng.flag() { value & SHORT_HIGH } else { value };
+                Operand::Int { value, short, unsigned: self.rng.flag() }
             }
         }
     }

@@ -58,6 +58,7 @@ fn instruction(function: usize, record: &Record) -> String {
         (0, _) => format!("{} {to}, {from}", binary(operation)),
         (4, 3) => format!("div {from}"),
         (4, 4) => format!("imul {to}, {from}"),
+        (4, 5) => format!("idiv {from}"),
         (6, 0) => format!("jmp {to}"),
         (6, 2) => "ret".to_string(),
         (6, 64..80) => format!("j{} {to}", CONDITIONS[operation as usize - 64]),
@@ -76,6 +77,8 @@ fn instruction(function: usize, record: &Record) -> String {
         (14, 1) => format!("pop {to}"),
         (17, 0) => format!("neg {to}"),
         (17, 1) => format!("not {to}"),
+        (17, 5) => "cdq".to_string(),
+        (17, 6) => "cqo".to_string(),
         _ => panic!("a plain list holds no {record:?}"),
     }
 }

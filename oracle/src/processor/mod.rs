@@ -6,8 +6,8 @@ mod batch;
 pub mod trial;
 
 use crate::rng::Rng;
-use crate::sheet::{Instr, binary};
-use crate::steps::End;
+use crate::sheet::{Instr, LONG, SHORT, binary};
+use crate::steps::{End, ends_by_the_least};
 use batch::{BuildFolder, Outcome};
 use krc::record::Record;
 use trial::{COUNTER, Entry, Lowering, POSITION, RBP, RSP, SAVED, Trial, frame, slots};
@@ -16,6 +16,10 @@ use trial::{COUNTER, Entry, Lowering, POSITION, RBP, RSP, SAVED, Trial, frame, s
 const BATCH: usize = 500;
 const SIGFPE: u64 = 8;
 const RAX: usize = 0;
+/// Form and operation of records.
+const DIV: [i64; 2] = [4, 3];
+const IDIV: [i64; 2] = [4, 5];
+const RET: [i64; 2] = [6, 2];
 
 #[derive(Default)]
 struct Totals {
@@ -24,6 +28,10 @@ struct Totals {
     values: usize,
     fell_off: usize,
     faults: usize,
+    /// Of the faults, those of the least signed value by -1.
+    least: usize,
+    /// Functions with a signed division of four bytes, and of eight.
+    signed: [usize; 2],
     records: u64,
     most_records: u64,
     steps: u64,
@@ -47,13 +55,17 @@ pub fn test(seed: u64, count: usize, lowering: Lowering) -> Result<String, Strin
 
 fn summary(totals: &Totals) -> String {
     format!(
-        "{} functions, {} runs: {} returned a value, {} fell off the end, {} faulted; \
+        "{} functions, {} with a signed division of four bytes and {} of eight, {} runs: \
+         {} returned a value, {} fell off the end, {} faulted, {} of them on the least value by -1; \
          {} steps (at most {} in a run), {} records run (at most {})\n",
         totals.functions,
+        totals.signed[0],
+        totals.signed[1],
         totals.runs,
         totals.values,
         totals.fell_off,
         totals.faults,
+        totals.least,
         totals.steps,
         totals.most_steps,
         totals.records,
@@ -69,23 +81,27 @@ fn test_batch(folder: &BuildFolder, trials: &[Trial], totals: &mut Totals) -> Re
                 compare(trial, entry, &outcome, counting)
                     .map_err(|difference| report(trial, entry, &difference))?;
                 if counting {
-                    totals.add(entry, outcome.registers[COUNTER]);
+                    totals.add(trial, entry, outcome.registers[COUNTER]);
                 }
             }
         }
     }
     totals.functions += trials.len();
+    for (total, code) in totals.signed.iter_mut().zip([SHORT, LONG]) {
+        *total += trials.iter().filter(|trial| divides_to(trial, code)).count();
+    }
     Ok(())
 }
 
 impl Totals {
-    fn add(&mut self, entry: &Entry, records: u64) {
+    fn add(&mut self, trial: &Trial, entry: &Entry, records: u64) {
         self.runs += 1;
         match entry.run.end {
             End::Value { .. } => self.values += 1,
             End::FellOff => self.fell_off += 1,
             _ => self.faults += 1,
         }
+        self.least += usize::from(ends_by_the_least(&trial.sheet, &entry.run));
         self.records += records;
         self.most_records = self.most_records.max(records);
         self.steps += entry.run.steps;
@@ -175,20 +191,26 @@ fn compare_count(entry: &Entry, records: u64) -> Result<(), String> {
 }
 
 /// The last record run belongs to the last instruction run: each Return makes one Ret, each
-/// Div or Rem one Div, in order; falling off the end leads to the last Ret.
+/// Div or Rem one Div or Idiv, in order; falling off the end leads to the last Ret.
 fn compare_position(trial: &Trial, entry: &Entry, position: usize) -> Result<(), String> {
     let before = &trial.sheet.body[..entry.run.last];
-    let (wanted, instructions): ([i64; 2], usize) = match entry.run.end {
-        End::Fault => ([4, 3], before.iter().filter(|instr| divides(instr)).count()),
+    let (wanted, instructions): (&[[i64; 2]], usize) = match entry.run.end {
+        End::Fault => (&[DIV, IDIV], before.iter().filter(|instr| divides(instr)).count()),
         End::FellOff => return same("last record", trial.list.len() - 1, position),
-        _ => ([6, 2], before.iter().filter(|instr| matches!(instr, Instr::Return(_))).count()),
+        _ => (&[RET], before.iter().filter(|instr| matches!(instr, Instr::Return(_))).count()),
     };
-    let is_wanted = |record: &Record| record[..2] == wanted;
+    let is_wanted = |record: &Record| wanted.iter().any(|form| record[..2] == *form);
     let places = trial.list.iter().enumerate().filter(|(_, record)| is_wanted(record));
     let place = places.map(|(place, _)| place).nth(instructions - 1);
     same("last record", place, Some(position))
 }
 
 fn divides(instr: &Instr) -> bool {
-    matches!(instr, Instr::Binary { op: binary::DIV | binary::REM, .. })
+    matches!(instr, Instr::Binary { op, .. } if binary::is_division(*op))
+}
+
+/// Whether a function has a division whose dest has this code.
+fn divides_to(trial: &Trial, code: i64) -> bool {
+    let to = |instr: &Instr| matches!(instr, Instr::Binary { dest, .. } if dest.ty.code == code);
+    trial.sheet.body.iter().any(|instr| divides(instr) && to(instr))
 }

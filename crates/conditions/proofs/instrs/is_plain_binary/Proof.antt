@@ -13,7 +13,7 @@ returns c = simp (c .before .match .keys1, ← c .is-plain-mul .ensures)
 
 returns-2 : tie.Need-returns-2
 unfolding isPlainBinary binaryOp
-returns-2 c = simp (c .before .match .keys2, ← c .is-plain-div .ensures)
+returns-2 c = simp (c .before .match .keys2, ← c .is-same .ensures)
 
 returns-3 : tie.Need-returns-3
 returns-3 c =
@@ -33,7 +33,7 @@ returns-5 c =
 returns-6 : tie.Need-returns-6
 returns-6 c =
     let a = c .before .before .before .before .before .before .before .args in
-    c .is-same .ensures ∙ shift (a .d) (a .x) (a .y) (a .op) (omega arith) (omega arith)
+    c .is-same2 .ensures ∙ shift (a .d) (a .x) (a .y) (a .op) (omega arith) (omega arith)
 
 returns-7 : tie.Need-returns-7
 returns-7 c =
@@ -43,7 +43,7 @@ returns-7 c =
 returns-8 : tie.Need-returns-8
 returns-8 c =
     let a = c .before .before .before .before .before .before .before .before .args in
-    c .is-plain-rem .ensures ∙ remainder (a .d) (a .x) (a .y) (a .op) (omega arith)
+    c .is-plain-mul2 .ensures ∙ remainder (a .d) (a .x) (a .y) (a .op) (omega arith)
 
 pub is-plain-binary-spec : {M : Type 1} → statement M
 is-plain-binary-spec =
