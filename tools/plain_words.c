@@ -109,11 +109,6 @@ static const char *move_words(const uint8_t *sheet, size_t cell) {
     return width(sheet, cell + LEFT) == dest_width(sheet, cell + DEST) ? NULL : "operand and dest do not agree in width";
 }
 
-static const char *division_words(int64_t code, bool is_byte, int64_t operation) {
-    if (code == LONG || code == SHORT) return "div and rem have an unsigned dest";
-    return is_byte && operation == REM ? "rem is not one byte wide" : NULL;
-}
-
 /* What an operation other than a comparison asks beyond widths. */
 static const char *operation_words(const uint8_t *sheet, size_t cell) {
     int64_t operation = cell_at(sheet, cell + OPERATION);
@@ -122,7 +117,7 @@ static const char *operation_words(const uint8_t *sheet, size_t cell) {
     if (takes_immediate && is_constant(sheet, cell + RIGHT, false) && !is_within(cell_at(sheet, cell + RIGHT + 1), LOW, IMMEDIATE_HIGH))
         return "a long constant as right is not in -2^31 to 2^31 - 1";
     if (operation == MUL && is_byte) return "mul is not one byte wide";
-    return operation == DIV || operation == REM ? division_words(cell_at(sheet, cell + DEST + 1), is_byte, operation) : NULL;
+    return operation == REM && is_byte ? "rem is not one byte wide" : NULL;
 }
 
 static const char *binary_words(const uint8_t *sheet, size_t cell) {

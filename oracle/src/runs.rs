@@ -5,7 +5,8 @@ use std::fmt::Write;
 use crate::lower::list;
 use crate::processor::trial::{Entry, Trial, draw, frame, slots};
 use crate::rng::Rng;
-use crate::steps::{End, Run};
+use crate::sheet::Sheet;
+use crate::steps::{End, Run, divides_signed, ends_by_the_least};
 
 /// Larger sheets and longer runs are left out: the checker evaluates each run by itself.
 const MAX_CELLS: usize = 170;
@@ -23,7 +24,9 @@ pub fn lines(seed: u64, count: usize) -> String {
         if trial.sheet.cells().len() > MAX_CELLS || frame(&trial.sheet) > MAX_FRAME {
             continue;
         }
-        if let Some(entry) = trial.entries.iter().find(|entry| wanted(done, &entry.run)) {
+        if let Some(entry) =
+            trial.entries.iter().find(|entry| wanted(done, &trial.sheet, &entry.run))
+        {
             line(&trial, entry, &mut text);
             done += 1;
         }
@@ -31,13 +34,17 @@ pub fn lines(seed: u64, count: usize) -> String {
     text
 }
 
-/// Of eight runs one ends by a fault, one with no instruction left, one after many steps.
-fn wanted(k: usize, run: &Run) -> bool {
+/// Of eight runs one ends by a fault, every second of these on the least value by -1, one with no
+/// instruction left, one after many steps, and one ends by a Return in a function that divides
+/// signed numbers.
+fn wanted(k: usize, sheet: &Sheet, run: &Run) -> bool {
     run.steps <= MAX_STEPS
         && match k % 8 {
-            0 => run.end == End::Fault,
+            0 if k % 16 == 0 => run.end == End::Fault,
+            0 => ends_by_the_least(sheet, run),
             1 => run.end == End::FellOff,
             2 => run.steps > MANY_STEPS,
+            3 => sheet.body.iter().any(divides_signed) && matches!(run.end, End::Value { .. }),
             _ => true,
         }
 }

@@ -46,6 +46,11 @@ pub fn run(sheet: &Sheet, variables: Vec<Vec<u8>>, bound: u64) -> Run {
     run
 }
 
+/// Whether an instruction divides signed numbers.
+pub fn divides_signed(instr: &Instr) -> bool {
+    matches!(instr, Instr::Binary { op, dest, .. } if binary::is_division(*op) && is_signed(dest.ty))
+}
+
 /// Whether a run ended by a fault of a divisor that is not zero: the least signed value by -1.
 pub fn ends_by_the_least(sheet: &Sheet, run: &Run) -> bool {
     match sheet.body.get(run.last.wrapping_sub(1)) {

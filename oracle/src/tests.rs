@@ -506,6 +506,66 @@ fn division_by_zero_is_a_step() {
     assert_eq!((empty.end, empty.steps), (End::FellOff, 0));
 }
 
+/// Where a division of two constants leads: the value of dest, or none by a fault that changes
+/// nothing.
+fn divided(op: i64, code: i64, left: i64, right: i64) -> Option<i64> {
+    let dest = var(0, code);
+    let constant = if dest.ty.size() == Some(4) { short } else { long };
+    let body = vec![binary(op, dest, constant(left), constant(right))];
+    let sheet = Sheet { variables: vec![dest.ty], body, ..Sheet::default() };
+    assert_eq!(faults(&sheet, None), []);
+    let before = vec![3; dest.ty.size().expect("a width") as usize];
+    let run = run(&sheet, vec![before.clone()], 10);
+    assert_eq!(run.steps, 1);
+    if run.end == End::Fault {
+        assert_eq!(run.variables[0], before);
+        return None;
+    }
+    Some(match run.variables[0].as_slice().try_into() {
+        Ok(bytes) => i64::from_le_bytes(bytes),
+        Err(_) => {
+            i32::from_le_bytes(run.variables[0].as_slice().try_into().expect("four bytes")).into()
+        }
+    })
+}
+
+#[test]
+fn signed_quotients() {
+    use binary::{DIV, REM};
+    for (code, least) in [(SHORT, i64::from(i32::MIN)), (LONG, i64::MIN)] {
+        let both = |a, b| (divided(DIV, code, a, b), divided(REM, code, a, b));
+        assert_eq!(both(-7, 2), (Some(-3), Some(-1)));
+        assert_eq!(both(7, -2), (Some(-3), Some(1)));
+        assert_eq!(both(-7, -2), (Some(3), Some(-1)));
+        assert_eq!(both(least, 1), (Some(least), Some(0)));
+        assert_eq!(both(least, -2), (Some(-(least / 2)), Some(0)));
+        assert_eq!(both(least + 1, -1), (Some(-(least + 1)), Some(0)));
+        assert_eq!(both(-1, least), (Some(0), Some(-1)));
+        assert_eq!(both(least, -1), (None, None));
+        assert_eq!(both(-7, 0), (None, None));
+    }
+    // a short constant 4294967295 is -1 where dest is signed, and the least by it faults
+    assert_eq!(divided(DIV, SHORT, 7, 4_294_967_295), Some(-7));
+    assert_eq!(divided(REM, SHORT, 1 << 31, 4_294_967_295), None);
+    // with an unsigned dest both are read as unsigned
+    assert_eq!(divided(DIV, UNSIGNED_SHORT, 1 << 31, -1), Some(0));
+    assert_eq!(divided(DIV, UNSIGNED_LONG, -1, 2), Some(i64::MAX));
+}
+
+#[test]
+fn signed_division_extends_at_the_width_of_dest() {
+    for (code, extend, size) in [(SHORT, 5, 4), (LONG, 6, 8)] {
+        for (op, result) in [(binary::DIV, 0), (binary::REM, 2)] {
+            let list = block(binary(op, own(code), read(code), read(code)));
+            assert_eq!(
+                list[2..4],
+                [[17, extend, 0, 0, 0, 0, size, 0], [4, 5, 0, 0, 1, 1, size, 0]]
+            );
+            assert_eq!((list.len(), &list[4][4..7]), (5, &[1, result, size][..]));
+        }
+    }
+}
+
 // ---- the generators
 
 #[test]

@@ -1,4 +1,4 @@
--- The twelve cases, by computation.
+-- The cases, by computation.
 use Prim.Native.Nat.{ℕ}
 use mathlib.Core.Path.{refl, sym, ap₂, _∙_}
 use mathlib.Core.List.{List, _++_, map-append}
@@ -18,7 +18,7 @@ use Rattle.machine.specs.Encodings.{known}
 use Rattle.machine.specs.Machine as x86
 use Rattle.machine.specs.Steps as steps
 use Rattle.machine.specs.Frames.{offsetFrom}
-use Rattle.cases.specs.Cases.{Case, lists, answers, runs, HoldIn, Hold}
+use Rattle.cases.specs.Cases.{Case, lists, answers, runs, quotients, HoldIn, Hold}
 
 join : (a b : List Case) → HoldIn a → HoldIn b → HoldIn (a ++ b)
 join a b p q =
@@ -41,9 +41,13 @@ runs-hold : HoldIn runs
 unfolding opened
 runs-hold = refl
 
+quotients-hold : HoldIn quotients
+unfolding opened
+quotients-hold = refl
+
 pub twelve : Hold
 twelve =
     record {
-      table = join lists (answers ++ runs) lists-hold (join answers runs answers-hold runs-hold);
+      table = join lists (answers ++ (runs ++ quotients)) lists-hold (join answers (runs ++ quotients) answers-hold (join runs quotients runs-hold quotients-hold));
       entered = record { going = refl; first = refl; aligned = refl; upward = refl };
     }

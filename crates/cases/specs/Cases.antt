@@ -1,6 +1,6 @@
--- Believed: it is 01's table of twelve cases as 02 has it, what the definitions give beside what the papers say. Sheets are given by their cells, values by a run. No other
--- claim rests on it.
-use Prim.Native.Nat.{ℕ, _+_, _*_}
+-- Believed: it is 01's table of twelve cases as 02 has it, with the cases of 02's signed division: what the definitions give beside what the papers say.
+-- Sheets are given by their cells, values by a run. No other claim rests on it.
+use Prim.Native.Nat.{ℕ, _+_, _*_, _^_}
 use mathlib.Core.Path.{_≡_}
 use mathlib.Core.Bool.{false}
 use mathlib.Core.List.{List, [], _∷_, _++_, map}
@@ -138,6 +138,24 @@ valueOf (steps.returned n v) = n ∷ v ∷ []
 abbrev pub returned : List ℕ → ℕ → ℕ → List ℕ
 returned s n m = valueOf (steps.run (functionOf s) n (start (functionOf s) entry) .status) ++ x86.run (listOf (answer s)) choice m entry .regs 0 ∷ []
 
+abbrev pub stepsFaulted : steps.Status → ℕ
+stepsFaulted steps.running = 0
+stepsFaulted steps.faulted = 1
+stepsFaulted steps.stuck = 0
+stepsFaulted (steps.returned n v) = 0
+
+abbrev pub recordsFaulted : x86.Status → ℕ
+recordsFaulted x86.running = 0
+recordsFaulted x86.faulted = 1
+recordsFaulted x86.undefined = 0
+recordsFaulted (x86.returned a) = 0
+
+-- whether F has faulted after n steps, and the run after m records
+abbrev pub faulted : List ℕ → ℕ → ℕ → List ℕ
+faulted s n m =
+    stepsFaulted (steps.run (functionOf s) n (start (functionOf s) entry) .status)
+    ∷ recordsFaulted (x86.run (listOf (answer s)) choice m entry .status) ∷ []
+
 -- ---- the sheets
 
 -- 01's own cells
@@ -160,6 +178,10 @@ castToLong constant = sheet 1 0 2 (long ++ instr 3 0 (0 ∷ long) constant nothi
 
 abbrev pub shiftedBy : ℕ → List ℕ
 shiftedBy k = sheet 1 0 2 (short ++ instr 2 11 (0 ∷ short) (int 1 1) (int k 1) ++ instr 9 0 noDest (var 0 short) nothing)
+
+-- two long constants, by Div (operation 16) or Rem (17) into a long
+abbrev pub divided : ℕ → ℕ → ℕ → List ℕ
+divided operation a b = sheet 1 0 2 (long ++ instr 2 operation (0 ∷ long) (int a 0) (int b 0) ++ instr 9 0 noDest (var 0 long) nothing)
 
 -- ---- the table
 
@@ -217,8 +239,18 @@ runs =
     -- Return then Comment adds no second epilogue
     ∷ case (summary (answer (sheet 0 0 2 (instr 9 0 noDest (int 0 0) nothing ++ instr 10 0 noDest nothing nothing)))) (0 ∷ 7 ∷ []) ∷ []
 
+-- signed division (02, M-106)
+abbrev pub quotients : List Case
+quotients =
+    -- -7 by 2 is -3 and leaves -1
+    case (returned (divided 16 (minus 7) 2) 2 12) (8 ∷ minus 3 ∷ minus 3 ∷ [])
+    ∷ case (returned (divided 17 (minus 7) 2) 2 12) (8 ∷ minus 1 ∷ minus 1 ∷ [])
+    -- the least value by -1 faults, by Rem too
+    ∷ case (faulted (divided 16 (2 ^ 63) (minus 1)) 1 7) (1 ∷ 1 ∷ [])
+    ∷ case (faulted (divided 17 (2 ^ 63) (minus 1)) 1 7) (1 ∷ 1 ∷ []) ∷ []
+
 abbrev pub cases : List Case
-cases = lists ++ (answers ++ runs)
+cases = lists ++ (answers ++ (runs ++ quotients))
 
 -- what the definitions give is what the papers say, in each of some cases
 abbrev pub HoldIn : List Case → Type 0

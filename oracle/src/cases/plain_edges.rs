@@ -18,7 +18,7 @@ const EDGES: [i64; 8] = [
 const ALL_OPS: std::ops::Range<i64> = 0..18;
 
 pub fn drafts() -> Vec<Draft> {
-    let instrs = [constants(), widths(), operations(), operands(), types()].concat();
+    let instrs = [constants(), widths(), operations(), operands(), types(), divisions()].concat();
     let mut drafts: Vec<Draft> = instrs.into_iter().map(alone).collect();
     let bodies = [bodies(), mixed()].concat();
     drafts.extend(
@@ -184,6 +184,25 @@ fn types() -> Vec<Instr> {
         all.push(Instr::Copy { dest, src: read(LONG) });
         all.push(Instr::Cast { dest, src: read(BYTE) });
         all.push(Instr::Binary { op: binary::EQ, dest, left: read(LONG), right: long(0) });
+    }
+    all
+}
+
+/// Div and Rem of every pair of integer types, dest signed or not, and of the least values by -1.
+fn divisions() -> Vec<Instr> {
+    use crate::sheet::binary::{DIV, REM};
+    const INTEGERS: [i64; 4] = [LONG, UNSIGNED_LONG, SHORT, UNSIGNED_SHORT];
+    let mut all = Vec::new();
+    for op in [DIV, REM] {
+        for dest in INTEGERS {
+            for side in INTEGERS {
+                all.push(binary(op, dest, read(side), read(side)));
+                all.push(binary(op, dest, read(dest), read(side)));
+            }
+            all.push(binary(op, dest, long(i64::MIN), long(-1)));
+            all.push(binary(op, dest, short(-(1 << 31)), short((1 << 32) - 1)));
+        }
+        all.push(binary(op, BYTE, read(BYTE), read(BOOL)));
     }
     all
 }

@@ -6,8 +6,8 @@ mod batch;
 pub mod trial;
 
 use crate::rng::Rng;
-use crate::sheet::{Instr, LONG, SHORT, binary};
-use crate::steps::{End, ends_by_the_least};
+use crate::sheet::{Instr, binary};
+use crate::steps::{End, divides_signed, ends_by_the_least};
 use batch::{BuildFolder, Outcome};
 use krc::record::Record;
 use trial::{COUNTER, Entry, Lowering, POSITION, RBP, RSP, SAVED, Trial, frame, slots};
@@ -87,8 +87,8 @@ fn test_batch(folder: &BuildFolder, trials: &[Trial], totals: &mut Totals) -> Re
         }
     }
     totals.functions += trials.len();
-    for (total, code) in totals.signed.iter_mut().zip([SHORT, LONG]) {
-        *total += trials.iter().filter(|trial| divides_to(trial, code)).count();
+    for (total, width) in totals.signed.iter_mut().zip([4, 8]) {
+        *total += trials.iter().filter(|trial| divides_signed_at(trial, width)).count();
     }
     Ok(())
 }
@@ -209,8 +209,8 @@ fn divides(instr: &Instr) -> bool {
     matches!(instr, Instr::Binary { op, .. } if binary::is_division(*op))
 }
 
-/// Whether a function has a division whose dest has this code.
-fn divides_to(trial: &Trial, code: i64) -> bool {
-    let to = |instr: &Instr| matches!(instr, Instr::Binary { dest, .. } if dest.ty.code == code);
-    trial.sheet.body.iter().any(|instr| divides(instr) && to(instr))
+/// Whether a function divides signed numbers of a width.
+fn divides_signed_at(trial: &Trial, width: i64) -> bool {
+    let at = |instr: &Instr| matches!(instr, Instr::Binary { dest, .. } if dest.ty.size() == Some(width));
+    trial.sheet.body.iter().any(|instr| divides_signed(instr) && at(instr))
 }
