@@ -5,7 +5,7 @@ use mathlib.Core.Bool.{Bool, true, false, cond, not, _||_, false≢true}
 use mathlib.Core.List.{List, _∷_, _++_}
 use lib.Dec.{eqb, ltb}
 use lib.ListN.{length, drop}
-use native.Mathlib.Nat.{mod-eq-of-lt, div-le-self, zero-mod}
+use native.Mathlib.Nat.{mod-lt, mod-le, mod-eq-of-lt, div-le-self, zero-mod}
 use native.Mathlib.Omega.{arith}
 use borrow.Author.Tests.{eqb-true, lt-leb, ne-eqb}
 use Rattle.ir.specs.declared.VarId.{VarId}
@@ -30,7 +30,7 @@ use Rattle.machine.specs.Steps as steps
 use Rattle.machine.specs.Steps.{Values, width, value, put, isBad, binary}
 use Rattle.machine.specs.Simulation.{place, findDivision}
 use Rattle.machine.proofs.Numbers.{bound-pos, merge-low, xor-self}
-use Rattle.machine.proofs.Quotients.{extendedBy, extended, too-far, results-lt}
+use Rattle.machine.proofs.Quotients.{extendedBy, extended, too-far, magnitude-lt}
 use Rattle.machine.proofs.Run.{savedOf, faulted-not, then, last}
 use Rattle.machine.proofs.Accepted.{code, place-suc, records-at}
 use Rattle.machine.proofs.Plainness.{Width, one, four, eight, Scalar, PlainOperand}
@@ -143,6 +143,18 @@ module _ (c : List Instruction) (u : Choice) (n a b : ℕ) (s : State) (w : Widt
   divides-is : (signed : Bool) → Extended signed n a s → exec c u (DivideBy signed n) s ≡ Answer u signed n a b s (isBad signed n a b)
   divides-is true e = at-width true ∙ ap₂ (λ (a b : ℕ). divideSigned (u .flags) n a b s) e db ∙ signed-is
   divides-is false e = at-width false ∙ ap₂ (λ (a b : ℕ). divideBy (u .flags) n a b s) e db ∙ unsigned-is
+
+-- both results fit n bytes
+results-lt : {n : ℕ} (a b : ℕ) → Width n → a < bound n → (signed : Bool) → (steps.quotient signed n a b < bound n) × (steps.remainder signed n a b < bound n)
+results-lt {n} a b w h true = (
+  at (differ (sign n a) (sign n b)) (omega (arith, div-le-self (magnitude n a) (magnitude n b), magnitude-lt a w h)),
+  at (sign n a) (omega (arith, mod-le (magnitude n a) (magnitude n b), magnitude-lt a w h)),
+)
+  where
+    at : (t : Bool) {v : ℕ} → v < bound n → negated t n v < bound n
+    at true h = mod-lt _ (bound-pos n)
+    at false h = h
+results-lt a b w h false = (omega (arith, div-le-self a b), omega (arith, mod-le a b))
 
 -- ---- the instruction
 
@@ -275,7 +287,7 @@ module _ (tables : Tables) (F : Function) (h : Ready tables F) (o : ℕ → Choi
     divided signed rest ne b z =
         let q : ℕ = steps.quotient signed n (value x σ) (value y σ) in
         let r : ℕ = steps.remainder signed n (value x σ) (value y σ) in
-        let lt = results-lt (value x σ) (value y σ) (sc .type .width) x-lt y-lt signed in
+        let lt = results-lt (value x σ) (value y σ) (sc .type .width) x-lt signed in
         let f : Divided n q r (z .0) (quotientTo n q r (z .0)) = quotient-fits n q r (z .0) (lt .0) (lt .1) in (
           Quoted (o (suc (suc (suc m)))) signed n (value x σ) (value y σ) (z .0),
           then c o s₀ (z .1) (fourth signed false rest z b) (f .status, f .mem, f .saved, refl, ap suc (f .pos)),
