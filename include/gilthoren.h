@@ -45,7 +45,8 @@ enum { GILTHOREN_RECORD_BYTES = 64 };
  * their total; registers carry parameters and arguments in order; RSP is a multiple of 16 at each call. If the function is plain
  * (gilthoren_plain says 1), the records, entered as the System V ABI says, simulate it step by step: at most 12 + 5 n records for n
  * steps, each slot holding its variable's value, faults and returns exactly where the function has them, no byte changed outside the
- * frame and the saved RBP. */
+ * frame and the saved RBP. Div and Rem are signed where dest is long or short: the quotient is rounded toward zero and the remainder
+ * has the dividend's sign. A zero divisor faults, and so does the least signed value divided by -1, for Rem too. */
 uint64_t gilthoren_lower(const uint8_t *tables, size_t tables_bytes, const uint8_t *sheet, size_t sheet_bytes,
                          uint8_t *records, size_t records_bytes, uint64_t *place);
 
