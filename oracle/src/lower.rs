@@ -60,7 +60,7 @@ pub fn held(tables: &[u8], sheet: &[u8]) -> Vec<&'static str> {
 }
 
 /// Krc's own list, or refusals 4 to 8 with their place.
-fn krc_list(tables: &Tables, sheet: &Sheet) -> Result<Vec<Record>, Refusal> {
+pub fn krc_list(tables: &Tables, sheet: &Sheet) -> Result<Vec<Record>, Refusal> {
     let whole = sheet.body.len();
     run_krc(tables, sheet, whole).map_err(|number| {
         let refused = |length: &usize| run_krc(tables, sheet, *length).is_err();

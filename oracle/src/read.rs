@@ -108,14 +108,14 @@ impl Cursor<'_> {
         Ok(Type { code, count })
     }
 
-    /// The variable list; the count cell that makes the total too large is oversize.
+    /// The variable list; the count cell of the variable whose offset first passes the limit is oversize.
     fn variable_types(&mut self, variables: i64) -> Result<Vec<Type>, Refusal> {
-        let mut total = 0;
+        let mut offset = 0;
         let mut types = Vec::new();
         for _ in 0..variables {
             let ty = self.type_of()?;
-            total += ty.size().unwrap_or(0);
-            if total > MAX_TOTAL {
+            offset = ty.offset_behind(offset);
+            if offset > MAX_OFFSET {
                 self.at -= 1;
                 return Err(self.refuse(OVERSIZE));
             }

@@ -6,7 +6,8 @@ pub const MAX_LABELS: i64 = 256;
 pub const MAX_INSTRUCTIONS: i64 = 4_096;
 pub const MAX_ARGUMENTS: i64 = 64;
 pub const MAX_COUNT: i64 = 1_048_576;
-pub const MAX_TOTAL: i64 = 1_048_576;
+/// For the last offset.
+pub const MAX_OFFSET: i64 = 1_048_576;
 pub const MAX_STRINGS: i64 = 256;
 pub const MAX_FLOATS: usize = 256;
 
@@ -56,6 +57,21 @@ impl Type {
     pub fn size(self) -> Option<i64> {
         let elements = if self.is_array() { self.count } else { 1 };
         self.element_size().map(|size| size * elements)
+    }
+
+    /// A variable's offset behind one of offset `previous` (02, M-110): the least multiple of its element's width
+    /// not below `previous` plus its size; with no width it keeps `previous`.
+    pub fn offset_behind(self, previous: i64) -> i64 {
+        match (self.size(), self.element_size()) {
+            (Some(size), Some(width)) => {
+                let mut offset = previous + size;
+                while offset % width != 0 {
+                    offset += 1;
+                }
+                offset
+            }
+            _ => previous,
+        }
     }
 
     fn cells(self) -> [i64; 2] {
@@ -240,12 +256,18 @@ impl Sheet {
         self.variables.get(usize::try_from(id).ok()?).copied()
     }
 
-    /// Bytes below the saved RBP up to the end of each variable's slot, in sheet order.
+    /// How far below the saved RBP each variable's slot starts, in sheet order.
     pub fn offsets(&self) -> Vec<i64> {
-        let ends = self.variables.iter().scan(0, |end, ty| {
-            *end += ty.size().unwrap_or(0);
-            Some(*end)
+        let offsets = self.variables.iter().scan(0, |offset, ty| {
+            *offset = ty.offset_behind(*offset);
+            Some(*offset)
         });
-        ends.collect()
+        offsets.collect()
+    }
+
+    /// The least multiple of 16 not below the last offset.
+    pub fn frame(&self) -> i64 {
+        let last = self.offsets().last().copied().unwrap_or(0);
+        (last + 15) / 16 * 16
     }
 }

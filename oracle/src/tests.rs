@@ -4,7 +4,7 @@ use crate::cases::{Draft, any, limits, plain};
 use crate::cells::to_bytes;
 use crate::compact::{file, parse};
 use crate::listing::listing;
-use crate::lower::{answer, lower};
+use crate::lower::{answer, krc_list, lower};
 use crate::plain::faults;
 use crate::read::{Refusal, read_sheet, read_tables};
 use crate::rng::Rng;
@@ -116,18 +116,61 @@ fn case_2_empty() {
 #[test]
 fn case_3_to_5_offsets() {
     let (s, c, l) = (Type::scalar(SHORT), Type::scalar(CHAR), Type::scalar(LONG));
-    assert_eq!(displacements(vec![s, c, l]), (vec![-4, -5, -13], 16));
-    assert_eq!(displacements(vec![l, l, c]).1, 32);
-    assert_eq!(displacements(vec![s, Type::array(LONG, 0), s]).0, vec![-4, -4, -8]);
+    assert_eq!(displacements(vec![s, c, l]), (vec![-4, -5, -16], 16));
+    assert_eq!(displacements(vec![l, l, c]), (vec![-8, -16, -17], 32));
+    assert_eq!(displacements(vec![s, Type::array(SHORT, 0), s]).0, vec![-4, -4, -8]);
+    // an empty array moves the offset; an array lies on its element's width, not on its own size
+    assert_eq!(displacements(vec![c, Type::array(LONG, 0), c]).0, vec![-1, -8, -9]);
+    assert_eq!(displacements(vec![c, Type::array(SHORT, 2)]).0, vec![-1, -12]);
+    assert_eq!(displacements(vec![c, Type::array(BYTE, 8)]).0, vec![-1, -9]);
 }
 
 #[test]
-fn case_6_total() {
-    let with =
-        |last| Sheet { variables: vec![Type::array(LONG, 131_071), last], ..Sheet::default() };
-    let number = |last| answer(&to_bytes(&[0]), &to_bytes(&with(last).cells()), 1_000).result;
-    assert!(number(Type::scalar(LONG)).is_ok());
-    assert_eq!(number(Type::array(BYTE, 9)), Err(Refusal { number: 3, place: 9 }));
+fn case_6_last_offset() {
+    let answered = |variables| {
+        let sheet = Sheet { variables, ..Sheet::default() };
+        answer(&to_bytes(&[0]), &to_bytes(&sheet.cells()), 1_000).result.map(|list| frame(&list))
+    };
+    let full = |last| answered(vec![Type::array(LONG, 131_071), last]);
+    assert_eq!(full(Type::scalar(LONG)), Ok(MAX_OFFSET));
+    assert_eq!(full(Type::array(BYTE, 9)), Err(Refusal { number: 3, place: 9 }));
+    // the padding alone passes the limit, in a variable and in an empty array
+    let padded = |last| answered(vec![Type::array(BYTE, MAX_OFFSET - 7), last]);
+    assert_eq!(padded(Type::scalar(LONG)), Err(Refusal { number: 3, place: 9 }));
+    assert_eq!(padded(Type::array(LONG, 0)), Ok(MAX_OFFSET));
+    assert_eq!(
+        answered(vec![
+            Type::array(BYTE, MAX_OFFSET - 3),
+            Type::array(SHORT, 0),
+            Type::array(LONG, 0),
+            Type::scalar(BYTE)
+        ]),
+        Err(Refusal { number: 3, place: 13 })
+    );
+}
+
+/// Of Krc's own list the rules set displacements, the frame and the size of a short float, and no other cell.
+#[test]
+fn all_other_cells_are_krcs() {
+    let mut rng = Rng::new(9);
+    for _ in 0..500 {
+        let Draft { tables, sheet } = any::draft(&mut rng);
+        let (Ok(own), Ok(ruled)) = (krc_list(&tables, &sheet), lower(&tables, &sheet)) else {
+            continue;
+        };
+        assert_eq!(own.len(), ruled.len());
+        for (k, (own, ruled)) in own.iter().zip(&ruled).enumerate() {
+            let is_set = |cell: usize| match cell {
+                3 => own[2] == RBP_PLUS,
+                5 => own[4] == RBP_PLUS || k == 2,
+                6 => own[4] == 7,
+                _ => false,
+            };
+            for cell in 0..8 {
+                assert!(own[cell] == ruled[cell] || is_set(cell), "{own:?} {ruled:?}");
+            }
+        }
+    }
 }
 
 #[test]
@@ -271,7 +314,7 @@ fn casts_take_no_source_width() {
         assert_eq!((list[0][..2].to_vec(), list[0][6..].to_vec()), (vec![7, 1], vec![8, 4]));
     }
     let two = Instr::Cast { dest: own(FLOAT), src: Operand::Var(array(10, BYTE, 2)) };
-    assert_eq!(block(two)[0], [5, 2, 1, 16, 5, -49, 2, 0]);
+    assert_eq!(block(two)[0], [5, 2, 1, 16, 5, -50, 2, 0]);
 }
 
 #[test]

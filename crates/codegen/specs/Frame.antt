@@ -38,7 +38,7 @@ varOffsets vars = cond (haveWidths vars) (ok (offsetsFrom 0 vars)) (refused 4)
 
 -- ---- the prologue
 
--- the sizes of the variables rounded up to 16
+-- the last offset rounded up to 16
 abbrev pub frame : List IrType → ℕ
 frame vars = (total vars + 15) / 16 * 16
 

@@ -10,7 +10,7 @@ use lib.Seq.{take-suc-set, drop-set-lt, take-at}
 use lib.Dec.{eqb, ltb}
 use Rattle.cells.specs.declared.Cursor.{Cursor}
 use Rattle.ir.specs.declared.«Type».{«Type» as IrType}
-use Rattle.ir.specs.Types.{elementWidth, bytes, offsetBehind, lastOffset}
+use Rattle.ir.specs.Types.{elementWidth, bytes, roundedUp, offsetBehind, lastOffset}
 use Rattle.ir.specs.Function.{typeAt, typesAt}
 use Rattle.layout.specs.declared.Checked.{Checked}
 use Rattle.layout.specs.Layout.{bindChecked, accepts, typeCheck, typesCheck}
@@ -29,17 +29,30 @@ one-width : (a : Bool) → a ≡ (a && true)
 one-width true = refl
 one-width false = refl
 
+-- ---- an offset behind another
+
+pub rounded-one : (n : ℕ) → n ≡ roundedUp 1 n
+rounded-one n = omega arith
+
+pub offset-on : (end : ℕ) (t : IrType) {w : ℕ} → elementWidth (t .code) ≡ w → eqb w 0 ≡ false → roundedUp w (end + bytes t) ≡ offsetBehind end t
+unfolding offsetBehind
+offset-on end t e h = simp (e, h)
+
+pub offset-kept : (end : ℕ) (t : IrType) → elementWidth (t .code) ≡ 0 → end ≡ offsetBehind end t
+unfolding offsetBehind
+offset-kept end t e = simp e
+
 -- ---- the types before the first wrong one
 
--- a turn over them: `b` are the bytes of a type that is right
-module _ (s : List ℕ) (end : ℕ) (c next : Cursor) (b m : ℕ) (right : typeCheck s c ≡ Checked.Behind next) (is : b ≡ bytes (typeAt s (c .at))) where
-  right-on : end + b ≤ 1048576 → rightTypes s (suc m) end c ≡ typeAt s (c .at) ∷ rightTypes s m (end + b) next
+-- a turn over them: `e` is the offset of a type that is right
+module _ (s : List ℕ) (end : ℕ) (c next : Cursor) (e m : ℕ) (right : typeCheck s c ≡ Checked.Behind next) (is : e ≡ offsetBehind end (typeAt s (c .at))) where
+  right-on : e ≤ 1048576 → rightTypes s (suc m) end c ≡ typeAt s (c .at) ∷ rightTypes s m e next
   unfolding rightTypes
-  right-on h = simp (right, ← is, le-ltb 1048576 (end + b) h)
+  right-on h = simp (right, ← is, le-ltb 1048576 e h)
 
-  right-over : 1048576 < end + b → rightTypes s (suc m) end c ≡ []
+  right-over : 1048576 < e → rightTypes s (suc m) end c ≡ []
   unfolding rightTypes
-  right-over h = simp (right, ← is, lt-ltb 1048576 (end + b) h)
+  right-over h = simp (right, ← is, lt-ltb 1048576 e h)
 
 right-wrong : (s : List ℕ) (end : ℕ) (c : Cursor) (m : ℕ) {number cell : ℕ} → typeCheck s c ≡ Checked.Refused number cell → rightTypes s (suc m) end c ≡ []
 unfolding rightTypes
@@ -51,21 +64,21 @@ unfolding typesCheck rightTypes typesAt
 all-right s zero end c h = refl
 all-right s (suc n) end c h = go (λ next k. all-right s n (offsetBehind end (typeAt s (c .at))) next k) (typeCheck s c) refl h
   where
-    sum : ℕ
-    sum = offsetBehind end (typeAt s (c .at))
+    offset : ℕ
+    offset = offsetBehind end (typeAt s (c .at))
 
     Behind : Type 0
-    Behind = (next : Cursor) → accepts (typesCheck s n sum next) ≡ true → rightTypes s n sum next ≡ typesAt s n (next .at)
+    Behind = (next : Cursor) → accepts (typesCheck s n offset next) ≡ true → rightTypes s n offset next ≡ typesAt s n (next .at)
 
-    within : Behind → (next : Cursor) → next .at ≡ c .at + 2 → (b : Bool) → accepts (cond b (Checked.Refused 3 (c .at + 1)) (typesCheck s n sum next)) ≡ true
-        → cond b [] (typeAt s (c .at) ∷ rightTypes s n sum next) ≡ typeAt s (c .at) ∷ typesAt s n (c .at + 2)
+    within : Behind → (next : Cursor) → next .at ≡ c .at + 2 → (b : Bool) → accepts (cond b (Checked.Refused 3 (c .at + 1)) (typesCheck s n offset next)) ≡ true
+        → cond b [] (typeAt s (c .at) ∷ rightTypes s n offset next) ≡ typeAt s (c .at) ∷ typesAt s n (c .at + 2)
     within f next e true k = apart (sym k)
     within f next e false k = ap (λ (ts : List IrType). typeAt s (c .at) ∷ ts) (f next k ∙ ap (typesAt s n) e)
 
     go : Behind → (x : Checked) → typeCheck s c ≡ x
-        → accepts (bindChecked x (λ next. cond (ltb 1048576 sum) (Checked.Refused 3 (c .at + 1)) (typesCheck s n sum next))) ≡ true
-        → ifRight x (λ next. cond (ltb 1048576 sum) [] (typeAt s (c .at) ∷ rightTypes s n sum next)) ≡ typeAt s (c .at) ∷ typesAt s n (c .at + 2)
-    go f (Checked.Behind next) e k = within f next (type-right s c e .0) (ltb 1048576 sum) k
+        → accepts (bindChecked x (λ next. cond (ltb 1048576 offset) (Checked.Refused 3 (c .at + 1)) (typesCheck s n offset next))) ≡ true
+        → ifRight x (λ next. cond (ltb 1048576 offset) [] (typeAt s (c .at) ∷ rightTypes s n offset next)) ≡ typeAt s (c .at) ∷ typesAt s n (c .at + 2)
+    go f (Checked.Behind next) e k = within f next (type-right s c e .0) (ltb 1048576 offset) k
     go f (Checked.Refused number cell) e k = apart (sym k)
 
 offsets-count : (end : ℕ) (ts : List IrType) → length (offsetsFrom end ts) ≡ length ts
@@ -92,13 +105,13 @@ pub record Sized (all left : List IrType) (end : ℕ) (widths : Bool) : Type 0 w
   pub have : (widths && haveWidths left) ≡ haveWidths all
   pub last : lastOffset end left ≡ lastOffset 0 all
 
-one-more : {all ts : List IrType} {t : IrType} {end : ℕ} {widths : Bool} {b : ℕ} → Sized all (t ∷ ts) end widths → b ≡ bytes t →
-    Sized all ts (end + b) (widths && not (eqb (elementWidth (t .code)) 0))
+one-more : {all ts : List IrType} {t : IrType} {end : ℕ} {widths : Bool} {e : ℕ} → Sized all (t ∷ ts) end widths → e ≡ offsetBehind end t →
+    Sized all ts e (widths && not (eqb (elementWidth (t .code)) 0))
 unfolding haveWidths lastOffset
-one-more {all} {ts} {t} {end} {widths} {b} f z =
+one-more {all} {ts} {t} {end} {widths} {e} f z =
     record {
       have = both-widths widths (not (eqb (elementWidth (t .code)) 0)) (haveWidths ts) ∙ f .have;
-      last = ap (λ (n : ℕ). lastOffset (end + n) ts) z ∙ f .last;
+      last = ap (λ (n : ℕ). lastOffset n ts) z ∙ f .last;
     }
 
 -- k numbers are filled in, and those that are left give the whole
@@ -109,18 +122,17 @@ none-filled : (s : List ℕ) (n : ℕ) (c : Cursor) (old : List ℕ) → Filled 
 none-filled s n c old = let z : 0 + length (rightTypes s n 0 c) ≡ length (rightTypes s n 0 c) = omega arith in record { so-far = rw z }
 
 -- the offset of one more
-fill : {whole : List ℕ} {k end : ℕ} {t : IrType} {ts : List IrType} {os : List ℕ} {b : ℕ} → Filled whole k end (t ∷ ts) os → b ≡ bytes t → k < length os
-    → Filled whole (suc k) (end + b) ts (set os k (end + b))
+fill : {whole : List ℕ} {k end : ℕ} {t : IrType} {ts : List IrType} {os : List ℕ} {e : ℕ} → Filled whole k end (t ∷ ts) os → e ≡ offsetBehind end t
+    → k < length os → Filled whole (suc k) e ts (set os k e)
 unfolding offsetsFrom
-fill {whole} {k} {end} {t} {ts} {os} {b} f z l =
-    let v : offsetBehind end t ≡ end + b = ap (λ (n : ℕ). end + n) (sym z) in
+fill {whole} {k} {end} {t} {ts} {os} {e} f z l =
     let m : k + suc (length ts) ≡ suc k + length ts = omega arith in
     record {
       so-far =
-          ap (λ (xs : List ℕ). xs ++ (offsetsFrom (end + b) ts ++ drop (suc k + length ts) (set os k (end + b)))) (take-suc-set os k (end + b) l)
-          ∙ append-assoc (take k os) ((end + b) ∷ []) (offsetsFrom (end + b) ts ++ drop (suc k + length ts) (set os k (end + b)))
-          ∙ ap (λ (xs : List ℕ). take k os ++ ((end + b) ∷ (offsetsFrom (end + b) ts ++ xs))) (drop-set-lt (suc k + length ts) os k (end + b) (omega arith))
-          ∙ rw (v, m) at (f .so-far);
+          ap (λ (xs : List ℕ). xs ++ (offsetsFrom e ts ++ drop (suc k + length ts) (set os k e))) (take-suc-set os k e l)
+          ∙ append-assoc (take k os) (e ∷ []) (offsetsFrom e ts ++ drop (suc k + length ts) (set os k e))
+          ∙ ap (λ (xs : List ℕ). take k os ++ (e ∷ (offsetsFrom e ts ++ xs))) (drop-set-lt (suc k + length ts) os k e (omega arith))
+          ∙ rw (← z, m) at (f .so-far);
     }
 
 -- none is left
@@ -175,23 +187,23 @@ module _ (s : List ℕ) (n : ℕ) (c : Cursor) (old : List ℕ) where
       unfolding typesCheck
       turn-wrong e = wrong (stops rest whole (f .layout) h (rw e refl)) (right-left h (right-wrong s end here (left - 1) e))
 
-      module _ {next : Cursor} {b : ℕ} (right : typeCheck s here ≡ Checked.Behind next) (is : b ≡ bytes (typeAt s (here .at))) where
-        -- it passes the limit
-        pub turn-over : 1048576 < end + b → Answered (Typed.Wrong 3 (here .at + 1)) os
+      module _ {next : Cursor} {e : ℕ} (right : typeCheck s here ≡ Checked.Behind next) (is : e ≡ offsetBehind end (typeAt s (here .at))) where
+        -- its offset passes the limit
+        pub turn-over : 1048576 < e → Answered (Typed.Wrong 3 (here .at + 1)) os
         turn-over l =
-            wrong (stops rest whole (f .layout) h (types-over s end here next b _ right is l)) (right-left h (right-over s end here next b (left - 1) right is l))
+            wrong (stops rest whole (f .layout) h (types-over s end here next e _ right is l)) (right-left h (right-over s end here next e (left - 1) right is l))
 
-        pub turn-on : end + b ≤ 1048576 → n ≤ length os →
-            Offsetting (left - 1) (k + 1) (end + b) (widths && not (eqb (elementWidth (typeAt s (here .at) .code)) 0)) next (set os k (end + b))
+        pub turn-on : e ≤ 1048576 → n ≤ length os →
+            Offsetting (left - 1) (k + 1) e (widths && not (eqb (elementWidth (typeAt s (here .at) .code)) 0)) next (set os k e)
         turn-on l long =
             let m : suc k ≡ k + 1 = omega arith in
             let more = types-more left here next h (type-right s here right .0) in
             record {
               sum = omega (arith, f .sum, h);
               small = l;
-              layout = goes-on rest whole (f .layout) (end + b, next) h (types-on s end here next b _ right is l);
+              layout = goes-on rest whole (f .layout) (e, next) h (types-on s end here next e _ right is l);
               sized = one-more (subst (λ (ts : List IrType). Sized (typesAt s n (c .at)) ts end widths) more (f .sized)) is;
-              filling = rw (← m) (fill (right-left h (right-on s end here next b (left - 1) right is l)) is (omega (arith, f .sum, h, long)));
+              filling = rw (← m) (fill (right-left h (right-on s end here next e (left - 1) right is l)) is (omega (arith, f .sum, h, long)));
             }
 
     pub turns-end : left ≤ 0 → Answered (Typed.Sized (totalOf widths end) here) os

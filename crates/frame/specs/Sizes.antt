@@ -1,4 +1,4 @@
--- Auxiliary: the variables' types of a sheet: their layout as `typesCheck` has it, the total of their sizes, and those before the first wrong one, which are all where the layout is right, by `all-right` (proofs/Offsets).
+-- Auxiliary: the variables' types of a sheet: their layout as `typesCheck` has it, the last offset, and those before the first wrong one, which are all where the layout is right, by `all-right` (proofs/Offsets).
 use Prim.Native.Nat.{ℕ, zero, suc}
 use mathlib.Core.List.{List, [], _∷_, _++_}
 use mathlib.Core.Bool.{Bool, true, false, cond}
@@ -27,7 +27,7 @@ abbrev pub typedOf : Checked → Number → Typed
 typedOf (Checked.Behind c) total = Typed.Sized total c
 typedOf (Checked.Refused n k) total = Typed.Wrong n k
 
--- ---- the types before the first wrong one: a type that is wrong itself, or whose variable makes the total pass its limit
+-- ---- the types before the first wrong one: a type that is wrong itself, or whose variable's offset passes the limit
 
 abbrev pub ifRight : Checked → (Cursor → List IrType) → List IrType
 ifRight (Checked.Behind c) rest = rest c
@@ -38,8 +38,8 @@ unfoldable pub rightTypes : List ℕ → ℕ → ℕ → Cursor → List IrType
 rightTypes s zero end c = []
 rightTypes s (suc n) end c =
     ifRight (typeCheck s c) (λ next.
-    let sum : ℕ = offsetBehind end (typeAt s (c .at)) in
-    cond (ltb 1048576 sum) [] (typeAt s (c .at) ∷ rightTypes s n sum next))
+    let offset : ℕ = offsetBehind end (typeAt s (c .at)) in
+    cond (ltb 1048576 offset) [] (typeAt s (c .at) ∷ rightTypes s n offset next))
 
 -- the numbers afterwards: the offsets of these, and behind them the old numbers
 abbrev pub offsetsAfter : List ℕ → ℕ → Cursor → List ℕ → List ℕ

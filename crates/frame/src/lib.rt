@@ -1,5 +1,6 @@
 // Krc's codegen/generation.rs, the frame: `var_offsets` and `func_prologue`.
 use cells::Cursor;
+use ir::Type;
 use ir::VarId;
 use ir::read::type_at;
 use ir::read::var_at;
@@ -28,7 +29,7 @@ ghost use Prim.Native.Nat.{_+_, _*_, _≤_};
 ghost use lib.Dec.{eqb};
 ghost use lib.ListN.{length, take};
 ghost use Rattle.cells.specs.Cells.{cells, write};
-ghost use Rattle.ir.specs.Types.{ok, elementWidth};
+ghost use Rattle.ir.specs.Types.{ok, elementWidth, offsetBehind};
 ghost use Rattle.ir.specs.Function.{typesAt, varsAt};
 ghost use Rattle.layout.specs.Layout.{accepts, typesCheck};
 ghost use Rattle.x86.specs.Records.{recordOf, recordBytes, listBytes};
@@ -38,7 +39,7 @@ ghost use Rattle.utils.specs.Makes.{Makes, Ready};
 ghost use Rattle.frame.specs.Sizes.{totalOf, sizesAt, typedOf, offsetsAfter};
 ghost use Rattle.frame.specs.Stores.{entering, paramSays, lookParam, paramOf, storeOne, storeParam};
 
-// What the variables' types come to: the total of their sizes and the cursor behind them, or the first wrong cell.
+// What the variables' types come to: the last offset and the cursor behind them, or the first wrong cell.
 pub enum Typed {
     Sized(Number, Cursor),
     Wrong(u64, usize),
@@ -50,7 +51,7 @@ fn has_width(code: u64) -> bool
     element_width(code) != 0
 }
 
-// The total; refusal 4 where a variable has no width.
+// The last offset; refusal 4 where a variable has no width.
 fn total_of(widths: bool, end: u64) -> Number
     ensures { λ r. ⌜ r ≡ totalOf widths end ⌝ }
 {
@@ -61,7 +62,23 @@ fn total_of(widths: bool, end: u64) -> Number
     }
 }
 
-// The `n` variable types from a cursor on, and the offset of each variable. The total of their sizes so far stays within its limit: the count cell that
+// The offset of a variable behind one of offset `end`: a multiple of its element's width. A division by a constant is a shift.
+fn offset_behind(end: u64, ty: Type) -> u64
+    requires { ⌜ end ≤ 1048576 ⌝ }
+    ensures { λ r. ⌜ r ≡ offsetBehind end ty ⌝ }
+{
+    let size = ty.bytes();
+    let sum = end + size;
+    let width = element_width(ty.code);
+    match width {
+        1 => sum,
+        4 => (sum + 3) / 4 * 4,
+        8 => (sum + 7) / 8 * 8,
+        _ => end,
+    }
+}
+
+// The `n` variable types from a cursor on, and the offset of each variable. The offset stays within its limit: the count cell of the variable that first
 // passes it is refused. The numbers from the first wrong type's on stay as they were.
 pub fn var_offsets(s: &[u8], n: u64, c: Cursor, offsets: &mut [u64; 256]) -> Typed
     requires { ⌜ n ≤ 256 ⌝ }
@@ -82,7 +99,7 @@ pub fn var_offsets(s: &[u8], n: u64, c: Cursor, offsets: &mut [u64; 256]) -> Typ
             Checked::Refused(number, cell) => return Typed::Wrong(number, cell),
         };
         let ty = type_at(s, here.at);
-        end += ty.bytes();
+        end = offset_behind(end, ty);
         if MOST_BYTES < end {
             return Typed::Wrong(3, here.at + 1);
         }

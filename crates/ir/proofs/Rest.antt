@@ -51,23 +51,33 @@ packed-width (suc (suc (suc (suc (suc (suc (suc (suc (suc (suc (suc (suc (suc (s
 packed-width (suc (suc (suc (suc (suc (suc (suc (suc (suc (suc (suc (suc (suc (suc (suc zero))))))))))))))) h = refl
 packed-width (suc (suc (suc (suc (suc (suc (suc (suc (suc (suc (suc (suc (suc (suc (suc (suc n)))))))))))))))) h = absurd (omega (arith, h))
 
+-- what holds of every width holds of a code's
+pub each-width : (P : ℕ → Type 0) (code : ℕ) → P 0 → P 1 → P 4 → P 8 → P (elementWidth code)
+unfolding elementWidth
+each-width P zero none one four eight = none
+each-width P (suc zero) none one four eight = eight
+each-width P (suc (suc zero)) none one four eight = eight
+each-width P (suc (suc (suc zero))) none one four eight = four
+each-width P (suc (suc (suc (suc zero)))) none one four eight = four
+each-width P (suc (suc (suc (suc (suc zero))))) none one four eight = eight
+each-width P (suc (suc (suc (suc (suc (suc zero)))))) none one four eight = four
+each-width P (suc (suc (suc (suc (suc (suc (suc zero))))))) none one four eight = one
+each-width P (suc (suc (suc (suc (suc (suc (suc (suc zero)))))))) none one four eight = one
+each-width P (suc (suc (suc (suc (suc (suc (suc (suc (suc zero))))))))) none one four eight = one
+each-width P (suc (suc (suc (suc (suc (suc (suc (suc (suc (suc zero)))))))))) none one four eight = eight
+each-width P (suc (suc (suc (suc (suc (suc (suc (suc (suc (suc (suc zero))))))))))) none one four eight = none
+each-width P (suc (suc (suc (suc (suc (suc (suc (suc (suc (suc (suc (suc zero)))))))))))) none one four eight = none
+each-width P (suc (suc (suc (suc (suc (suc (suc (suc (suc (suc (suc (suc (suc n))))))))))))) none one four eight = none
+
 -- each is at most eight
 pub few-bytes : (code : ℕ) → elementWidth code ≤ 8
-unfolding elementWidth
-few-bytes zero = omega arith
-few-bytes (suc zero) = omega arith
-few-bytes (suc (suc zero)) = omega arith
-few-bytes (suc (suc (suc zero))) = omega arith
-few-bytes (suc (suc (suc (suc zero)))) = omega arith
-few-bytes (suc (suc (suc (suc (suc zero))))) = omega arith
-few-bytes (suc (suc (suc (suc (suc (suc zero)))))) = omega arith
-few-bytes (suc (suc (suc (suc (suc (suc (suc zero))))))) = omega arith
-few-bytes (suc (suc (suc (suc (suc (suc (suc (suc zero)))))))) = omega arith
-few-bytes (suc (suc (suc (suc (suc (suc (suc (suc (suc zero))))))))) = omega arith
-few-bytes (suc (suc (suc (suc (suc (suc (suc (suc (suc (suc zero)))))))))) = omega arith
-few-bytes (suc (suc (suc (suc (suc (suc (suc (suc (suc (suc (suc zero))))))))))) = omega arith
-few-bytes (suc (suc (suc (suc (suc (suc (suc (suc (suc (suc (suc (suc zero)))))))))))) = omega arith
-few-bytes (suc (suc (suc (suc (suc (suc (suc (suc (suc (suc (suc (suc (suc n))))))))))))) = omega arith
+few-bytes code = each-width (λ w. w ≤ 8) code (omega arith) (omega arith) (omega arith) (omega arith)
+
+-- what is not 1, 4 or 8 is none
+pub no-width : (code : ℕ) → (elementWidth code ≡ 1 → ⊥) → (elementWidth code ≡ 4 → ⊥) → (elementWidth code ≡ 8 → ⊥) → elementWidth code ≡ 0
+no-width code =
+    each-width (λ w. (w ≡ 1 → ⊥) → (w ≡ 4 → ⊥) → (w ≡ 8 → ⊥) → w ≡ 0) code (λ a b c. refl) (λ a b c. absurd (a refl)) (λ a b c. absurd (b refl))
+    (λ a b c. absurd (c refl))
 
 pub no-size : (w : ℕ) → (w ≡ 1 → ⊥) → (w ≡ 4 → ⊥) → (w ≡ 8 → ⊥) → Size.NoSize ≡ elementSize w
 no-size w h1 h4 h8 = rw (ne-eqb w 1 h1, ne-eqb w 4 h4, ne-eqb w 8 h8)

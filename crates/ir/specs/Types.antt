@@ -1,5 +1,5 @@
 -- Believed: Krc's `Type` and its answers (parser/postparser/structs.rs), Krc's `Operand::size` (converter/ir/structs.rs), and 01's type codes.
-use Prim.Native.Nat.{ℕ, _+_, _*_, _^_, _-_, min}
+use Prim.Native.Nat.{ℕ, _+_, _*_, _/_, _^_, _-_, min}
 use mathlib.Core.List.{List, [], _∷_}
 use mathlib.Core.Bool.{Bool, cond, not, _&&_, _||_}
 use lib.ListN.{getD}
@@ -35,11 +35,16 @@ elementWidth code = getD (0 ∷ 8 ∷ 8 ∷ 4 ∷ 4 ∷ 8 ∷ 4 ∷ 1 ∷ 1 ∷ 
 unfoldable pub bytes : IrType → ℕ
 bytes ty = cond (isScalar ty) (elementWidth (ty .code)) (elementWidth (ty .code) * min (ty .count) 1048576)
 
--- a variable's offset under RBP, behind one of offset `end`: the sizes up to it, its own included (01, "For demand 3")
-abbrev pub offsetBehind : ℕ → IrType → ℕ
-offsetBehind end ty = end + bytes ty
+-- n rounded up to a multiple of w
+abbrev pub roundedUp : ℕ → ℕ → ℕ
+roundedUp w n = (n + (w - 1)) / w * w
 
--- the last offset of a list of variables, where those before them end at `end`: the total of the sizes
+-- a variable's offset under RBP, behind one of offset `end`: its size more, rounded up to its element's width; one with no width keeps `end`
+-- (02, M-110)
+unfoldable pub offsetBehind : ℕ → IrType → ℕ
+offsetBehind end ty = cond (eqb (elementWidth (ty .code)) 0) end (roundedUp (elementWidth (ty .code)) (end + bytes ty))
+
+-- the last offset of a list of variables, where those before them end at `end`
 unfoldable pub lastOffset : ℕ → List IrType → ℕ
 lastOffset end [] = end
 lastOffset end (t ∷ ts) = lastOffset (offsetBehind end t) ts

@@ -147,7 +147,7 @@ instrCheck s c =
 
 -- ---- the lists
 
--- n variable types; `total` is the total of the sizes so far, and the count cell that passes the limit is refused
+-- n variable types; `total` is the last offset so far, and the count cell whose offset passes the limit is refused
 unfoldable pub typesCheck : List ℕ → ℕ → ℕ → Cursor → Checked
 typesCheck s zero total c = Checked.Behind c
 typesCheck s (suc n) total c =

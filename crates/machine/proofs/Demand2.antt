@@ -141,6 +141,7 @@ demand2 tables sheet old is e =
       list = is;
       decoded = decodes tables sheet (length old) is e old;
       framed = framed (F .vars) total;
+      based = λ s₀ h. omega (arith, h .aligned);
       frame = ap (λ (l : List Instruction). getD l 2 (Instruction.Label 0)) c ∙ code-frame T F a;
       slots = subst (Addressed T F) (sym c) (code-slots T F a);
       computing = λ j h. all-at Computing is j noRecord (subst (All Computing) (sym c) (code-computing T F total a)) h;

@@ -1,25 +1,65 @@
 -- The variables' slots: they lie in the frame, apart from each other, and a store to one is F's write to its variable.
-use Prim.Native.Nat.{ℕ, zero, suc, _+_, _-_, _%_, _<_, _≤_}
+use Prim.Native.Nat.{ℕ, zero, suc, _+_, _*_, _-_, _/_, _%_, _<_, _≤_, min}
 use mathlib.Core.Path.{_≡_, refl, sym, ap, _∙_, subst, fun-ext}
 use mathlib.Core.Bool.{Bool, true, false, cond, _&&_}
 use mathlib.Core.List.{List, [], _∷_}
 use lib.Dec.{ltb, eqb}
-use lib.ListN.{length}
+use lib.ListN.{length, getD}
 use lib.Arith.{lt-of-le-ne}
-use native.Mathlib.Nat.{not-suc-le-zero, le-of-suc-le-suc}
+use native.Mathlib.Nat.{not-suc-le-zero, le-of-suc-le-suc, mul-mod-left}
 use native.Mathlib.Omega.{arith}
 use borrow.Author.Tests.{eqb-true, eqb-false, lt-ltb, ltb-true, ltb-false}
 use Rattle.ir.specs.declared.«Type».{«Type» as IrType}
-use Rattle.ir.specs.Types.{bytes}
+use Rattle.ir.specs.Types.{bytes, elementWidth, isScalar}
+use Rattle.ir.proofs.Rest.{each-width}
 use Rattle.machine.specs.Word.{W, bound, byte, above, store}
 use Rattle.machine.specs.Steps.{Values, put}
-use Rattle.machine.specs.Frames.{behind, offsetFrom, depthFrom, offset, depth, sizeOf, frameSize, slotOf, slotByte, Framed}
+use Rattle.machine.specs.Plain.{noType}
+use Rattle.machine.specs.Frames.{unit, behind, offsetFrom, depthFrom, offset, depth, sizeOf, unitOf, frameSize, slotOf, slotByte, Stepped, Framed}
 use Rattle.machine.proofs.Numbers.{byte-mod, above-up, above-down, address-add, store-in, store-out, above-at}
 
 -- ---- offsets: all that follows of them rests on one law of one step
 
+abbrev up : ℕ → ℕ → ℕ → ℕ
+up w end n = cond (eqb w 0) end ((end + n + (w - 1)) / w * w)
+
+-- a type with no width has no bytes
+no-bytes : (t : IrType) → unit t ≡ 0 → bytes t ≡ 0
+unfolding bytes
+no-bytes t h = go (isScalar t)
+  where
+    go : (b : Bool) → cond b (elementWidth (t .code)) (elementWidth (t .code) * min (t .count) 1048576) ≡ 0
+    go true = h
+    go false = rw h (omega arith)
+
 grows : (end : ℕ) (t : IrType) → end + bytes t ≤ behind end t
-grows end t = omega arith
+unfolding behind
+grows end t =
+    each-width (λ w. (w ≡ 0 → bytes t ≡ 0) → end + bytes t ≤ up w end (bytes t)) (t .code) (λ h. omega (arith, h refl)) (λ h. omega arith) (λ h. omega arith)
+    (λ h. omega arith) (no-bytes t)
+
+stepped : (end : ℕ) (t : IrType) → 0 < unit t → Stepped end t
+unfolding behind
+stepped end t h =
+    record {
+      multiple = each-width (λ w. 0 < w → up w end (bytes t) % w ≡ 0) (t .code) (λ h. omega arith) (λ h. omega arith) (λ h. omega arith) (λ h. omega arith) h;
+      enough = grows end t;
+      least = each-width (λ w. 0 < w → (n : ℕ) → n % w ≡ 0 → end + bytes t ≤ n → up w end (bytes t) ≤ n) (t .code) (λ h n a b. omega arith)
+          (λ h n a b. omega arith) (λ h n a b. omega arith) (λ h n a b. omega arith) h;
+    }
+
+offset-multiple : (end : ℕ) (ts : List IrType) (x : ℕ) → x < length ts → 0 < unitOf ts x → offsetFrom end ts x % unitOf ts x ≡ 0
+unfolding offsetFrom
+offset-multiple end [] x h k = absurd (not-suc-le-zero h)
+offset-multiple end (t ∷ ts) zero h k = stepped end t k .multiple
+offset-multiple end (t ∷ ts) (suc x) h k = offset-multiple (behind end t) ts x (le-of-suc-le-suc h) k
+
+-- an address that far below a multiple of 16
+lies : (b o j : ℕ) (code : ℕ) → b % 16 ≡ 0 → 0 < elementWidth code → o % elementWidth code ≡ 0 → j % elementWidth code ≡ 0 → o ≤ 1048576
+    → ((b + (W - o) % W) % W + j) % W % elementWidth code ≡ 0
+lies b o j code h k e f g =
+    each-width (λ w. 0 < w → o % w ≡ 0 → j % w ≡ 0 → ((b + (W - o) % W) % W + j) % W % w ≡ 0) code (λ k e f. omega arith) (λ k e f. omega arith)
+    (λ k e f. omega arith) (λ k e f. omega arith) k e f
 
 depth-grows : (end : ℕ) (ts : List IrType) → end ≤ depthFrom end ts
 unfolding depthFrom
@@ -154,7 +194,17 @@ module _ (vars : List IrType) (small : depth vars ≤ 1048576) where
   -- ---- the frame
 
   pub framed : Framed vars
-  framed = record { multiple = omega arith; enough = omega arith; least = λ n h k. omega arith; inside = inside; apart = apart }
+  framed =
+      record {
+        stepped = stepped;
+        multiple = omega arith;
+        enough = omega arith;
+        least = λ n h k. omega arith;
+        inside = inside;
+        apart = apart;
+        aligned = λ b x i h hx k.
+            lies b (offset vars x) (i * unitOf vars x) (getD vars x noType .code) h k (offset-multiple 0 vars x hx k) (mul-mod-left i (unitOf vars x)) (reach x hx .1);
+      }
     where
       inside : (b x i : ℕ) → b < W → x < length vars → i < sizeOf vars x → above ((b + (W - frameSize vars)) % W) (slotByte vars b x i) < frameSize vars
       inside b x i hb hx hi =

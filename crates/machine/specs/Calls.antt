@@ -381,6 +381,8 @@ pub record Demand2 (tables sheet records : List ℕ) (n : ℕ) : Type 0 where
   pub list : List Instruction
   pub decoded : decodeList records n 0 ≡ some list
   pub framed : Framed (functionOf sheet .vars)
+  -- the frame ends at a multiple of 16, so that every slot lies on its own width
+  pub based : (s₀ : State) → Entry s₀ → base s₀ % 16 ≡ 0
   -- the third record makes the frame
   pub frame : getD list 2 (Instruction.Label 0) ≡ Instruction.Binary BinOp.Sub (Operand.Reg RSP) (Operand.Imm (frameSize (functionOf sheet .vars))) Size.NoSize
   pub slots : Addressed (tablesOf tables) (functionOf sheet) list

@@ -5,13 +5,20 @@ use mathlib.Core.Path.{_≡_}
 use mathlib.Core.List.{List, [], _∷_}
 use lib.ListN.{length, getD}
 use Rattle.ir.specs.declared.«Type».{«Type» as IrType}
-use Rattle.ir.specs.Types.{bytes}
+use mathlib.Core.Bool.{cond}
+use lib.Dec.{eqb}
+use Rattle.ir.specs.Types.{bytes, elementWidth}
 use Rattle.machine.specs.Word.{W, above}
 use Rattle.machine.specs.Plain.{noType}
 
--- a variable's offset, where that of the one before it is `end`: the total of the sizes in sheet order, its own included
-abbrev pub behind : ℕ → IrType → ℕ
-behind end t = end + bytes t
+-- the bytes of an element of a type; 0 where it has no width
+abbrev pub unit : IrType → ℕ
+unit t = elementWidth (t .code)
+
+-- a variable's offset, where that of the one before it is `end`: the least multiple of its element's width not below `end` plus its size, or `end`
+-- where it has no width (02, M-110)
+unfoldable pub behind : ℕ → IrType → ℕ
+behind end t = cond (eqb (unit t) 0) end ((end + bytes t + (unit t - 1)) / unit t * unit t)
 
 -- the offset of variable x of those behind `end`
 unfoldable pub offsetFrom : ℕ → List IrType → ℕ → ℕ
@@ -33,6 +40,9 @@ depth vars = depthFrom 0 vars
 abbrev pub sizeOf : List IrType → ℕ → ℕ
 sizeOf vars x = bytes (getD vars x noType)
 
+abbrev pub unitOf : List IrType → ℕ → ℕ
+unitOf vars x = unit (getD vars x noType)
+
 -- the least multiple of 16 not below the last offset
 abbrev pub frameSize : List IrType → ℕ
 frameSize vars = (depth vars + 15) / 16 * 16
@@ -45,7 +55,15 @@ slotOf vars x = (W - offset vars x) % W
 abbrev pub slotByte : List IrType → ℕ → ℕ → ℕ → ℕ
 slotByte vars b x i = ((b + slotOf vars x) % W + i) % W
 
+-- one offset behind another: the least that will do
+pub record Stepped (end : ℕ) (t : IrType) : Type 0 where
+  pub multiple : behind end t % unit t ≡ 0
+  pub enough : end + bytes t ≤ behind end t
+  pub least : (n : ℕ) → n % unit t ≡ 0 → end + bytes t ≤ n → behind end t ≤ n
+
 pub record Framed (vars : List IrType) : Type 0 where
+  -- an offset is the least multiple of its element's width not below that before it plus its size
+  pub stepped : (end : ℕ) (t : IrType) → 0 < unit t → Stepped end t
   -- the frame is the least multiple of 16 not below the last offset
   pub multiple : frameSize vars % 16 ≡ 0
   pub enough : depth vars ≤ frameSize vars
@@ -54,3 +72,6 @@ pub record Framed (vars : List IrType) : Type 0 where
   pub inside : (b x i : ℕ) → b < W → x < length vars → i < sizeOf vars x → above ((b + (W - frameSize vars)) % W) (slotByte vars b x i) < frameSize vars
   pub apart : (b x y i j : ℕ) → b < W → x < length vars → y < length vars → i < sizeOf vars x → j < sizeOf vars y
       → slotByte vars b x i ≡ slotByte vars b y j → x ≡ y
+  -- where the frame ends at a multiple of 16, as at every entry by the ABI, each slot's address, and that of each element in it, is a multiple of
+  -- its element's width
+  pub aligned : (b x i : ℕ) → b % 16 ≡ 0 → x < length vars → 0 < unitOf vars x → slotByte vars b x (i * unitOf vars x) % unitOf vars x ≡ 0

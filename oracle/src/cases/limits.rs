@@ -7,7 +7,7 @@ use crate::lower::RECORD;
 use crate::sheet::*;
 
 pub fn cases() -> Vec<Case> {
-    let mut inputs = [counts(), type_counts(), totals(), bodies(), arguments()].concat();
+    let mut inputs = [counts(), type_counts(), offsets(), bodies(), arguments()].concat();
     inputs.extend([parameters(), tables(), slices(), layouts()].concat());
     let mut cases: Vec<Case> = inputs.into_iter().map(Input::with_exact_room).collect();
     cases.extend(record_lengths());
@@ -89,10 +89,10 @@ fn type_counts() -> Vec<Input> {
     all
 }
 
-/// The total of the variables' sizes.
-fn totals() -> Vec<Input> {
-    let full = Type::array(BYTE, MAX_TOTAL);
-    let lists = vec![
+/// The offsets of the variables, and the limit on the last.
+fn offsets() -> Vec<Input> {
+    let full = Type::array(BYTE, MAX_OFFSET);
+    let mut lists = vec![
         vec![full],
         vec![full, Type::scalar(BYTE)],
         vec![full, Type::scalar(LONG), Type::scalar(0)],
@@ -101,37 +101,70 @@ fn totals() -> Vec<Input> {
         vec![full, Type::array(CUSTOM, MAX_COUNT)],
         vec![full, Type::scalar(NULL), Type::scalar(BYTE)],
         vec![Type::array(CUSTOM, MAX_COUNT), Type::array(NULL, MAX_COUNT), full],
-        vec![Type::array(BYTE, MAX_TOTAL - 1), Type::scalar(BYTE)],
-        vec![Type::array(BYTE, MAX_TOTAL - 1), Type::scalar(BYTE), Type::scalar(BOOL)],
-        vec![Type::array(BYTE, MAX_TOTAL - 1), Type::scalar(SHORT)],
-        vec![Type::array(BYTE, MAX_TOTAL - 7), Type::scalar(FLOAT)],
-        vec![Type::array(BYTE, MAX_TOTAL - 8), Type::scalar(FLOAT)],
-        vec![Type::array(LONG, MAX_TOTAL / 8)],
-        vec![Type::array(UNSIGNED_LONG, MAX_TOTAL / 8 + 1)],
-        vec![Type::array(SHORT, MAX_TOTAL / 4)],
-        vec![Type::array(SHORT_FLOAT, MAX_TOTAL / 4 + 1)],
+        vec![Type::array(BYTE, MAX_OFFSET - 1), Type::scalar(BYTE)],
+        vec![Type::array(BYTE, MAX_OFFSET - 1), Type::scalar(BYTE), Type::scalar(BOOL)],
+        vec![Type::array(BYTE, MAX_OFFSET - 1), Type::scalar(SHORT)],
+        vec![Type::array(BYTE, MAX_OFFSET - 7), Type::scalar(FLOAT)],
+        vec![Type::array(BYTE, MAX_OFFSET - 8), Type::scalar(FLOAT)],
+        vec![Type::array(LONG, MAX_OFFSET / 8)],
+        vec![Type::array(UNSIGNED_LONG, MAX_OFFSET / 8 + 1)],
+        vec![Type::array(SHORT, MAX_OFFSET / 4)],
+        vec![Type::array(SHORT_FLOAT, MAX_OFFSET / 4 + 1)],
         vec![Type::array(LONG, MAX_COUNT)],
-        vec![Type::array(LONG, MAX_TOTAL / 16), Type::array(ADDRESS, MAX_TOTAL / 16)],
-        vec![Type::array(LONG, MAX_TOTAL / 16), Type::array(ADDRESS, MAX_TOTAL / 16 + 1)],
+        vec![Type::array(LONG, MAX_OFFSET / 16), Type::array(ADDRESS, MAX_OFFSET / 16)],
+        vec![Type::array(LONG, MAX_OFFSET / 16), Type::array(ADDRESS, MAX_OFFSET / 16 + 1)],
     ];
-    let mut all = Vec::new();
-    for variables in lists {
+    lists.extend(paddings_at_the_limit());
+    let zero_of_the_last = |variables: Vec<Type>| {
         let last = Variable { id: variables.len() as i64 - 1, ty: variables[variables.len() - 1] };
-        let sheet = Sheet { variables, body: vec![Instr::Zero(last)], ..Sheet::default() };
-        all.push(sheet_input(&sheet));
-    }
-    for sizes in [vec![4, 1, 8], vec![4, 4, 8, 1], vec![8, 8], vec![1; 17], vec![4, 0, 4], vec![]] {
-        let variables: Vec<Type> = sizes.into_iter().map(of_size).collect();
-        let sheet = Sheet { variables, ..Sheet::default() };
-        let body = (0..sheet.variables.len()).map(|id| Instr::Zero(sheet.variable(id))).collect();
-        all.push(sheet_input(&Sheet { body, ..sheet }));
+        sheet_input(&Sheet { variables, body: vec![Instr::Zero(last)], ..Sheet::default() })
+    };
+    let mut all: Vec<Input> = lists.into_iter().map(zero_of_the_last).collect();
+    all.extend(mixed_widths().into_iter().map(zero_of_each));
+    all
+}
+
+/// Bytes up to just below the limit, and then a variable or an array that its padding may take to the limit or past it.
+fn paddings_at_the_limit() -> Vec<Vec<Type>> {
+    let mut all = Vec::new();
+    for below in [1, 3, 4, 5, 7, 8, 9] {
+        let bytes = Type::array(BYTE, MAX_OFFSET - below);
+        for code in [LONG, SHORT_FLOAT] {
+            all.push(vec![bytes, Type::scalar(code)]);
+            all.push(vec![bytes, Type::array(code, 0), Type::scalar(BYTE)]);
+            all.push(vec![bytes, Type::array(code, 2)]);
+        }
+        // what has no width keeps the offset
+        all.push(vec![bytes, Type::array(NULL, 0), Type::scalar(ADDRESS)]);
     }
     all
+}
+
+/// The scope's sizes; then a variable of every code, alone, as an empty array or with elements, behind a byte and behind another.
+fn mixed_widths() -> Vec<Vec<Type>> {
+    let sizes = [vec![4, 1, 8], vec![4, 4, 8, 1], vec![8, 8], vec![1; 17], vec![4, 0, 4], vec![]];
+    let mut all: Vec<Vec<Type>> =
+        sizes.into_iter().map(|sizes| sizes.into_iter().map(of_size).collect()).collect();
+    let byte = Type::scalar(BYTE);
+    for code in LONG..=ADDRESS {
+        for count in [-1, 0, 3] {
+            let ty = Type { code, count };
+            all.push(vec![byte, ty, byte, ty, Type::scalar(SHORT)]);
+        }
+    }
+    all
+}
+
+fn zero_of_each(variables: Vec<Type>) -> Input {
+    let sheet = Sheet { variables, ..Sheet::default() };
+    let body = (0..sheet.variables.len()).map(|id| Instr::Zero(sheet.variable(id))).collect();
+    sheet_input(&Sheet { body, ..sheet })
 }
 
 fn of_size(size: i64) -> Type {
     match size {
         1 => Type::scalar(CHAR),
+        0 => Type::array(SHORT, 0),
         4 => Type::scalar(SHORT),
         8 => Type::scalar(LONG),
         other => Type::array(BYTE, other),

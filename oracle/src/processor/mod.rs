@@ -119,6 +119,7 @@ fn report(trial: &Trial, entry: &Entry, difference: &str) -> String {
 fn compare(trial: &Trial, entry: &Entry, outcome: &Outcome, counting: bool) -> Result<(), String> {
     compare_end(trial, entry, outcome)?;
     compare_saved(entry, outcome, counting)?;
+    compare_addresses(trial, entry, outcome)?;
     compare_region(trial, entry, outcome)?;
     if counting {
         compare_count(entry, outcome.registers[COUNTER])?;
@@ -159,6 +160,18 @@ fn compare_saved(entry: &Entry, outcome: &Outcome, counting: bool) -> Result<(),
         if !(counting && [COUNTER, POSITION].contains(&register)) {
             let name = format!("saved register {register}");
             same(&name, entry.registers[register], outcome.registers[register])?;
+        }
+    }
+    Ok(())
+}
+
+/// Each slot, and each element of an array, lies at a multiple of its element's width.
+fn compare_addresses(trial: &Trial, entry: &Entry, outcome: &Outcome) -> Result<(), String> {
+    let first = outcome.base as usize - entry.below;
+    for (slot, ty) in slots(&trial.sheet, entry.below).into_iter().zip(&trial.sheet.variables) {
+        let width = ty.element_size().expect("a plain type") as usize;
+        for at in std::iter::once(slot.start).chain(slot.step_by(width)) {
+            same("an address modulo its width", 0, (first + at) % width)?;
         }
     }
     Ok(())

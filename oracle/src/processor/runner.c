@@ -95,7 +95,8 @@ __asm__(
     "  mov rsp, [rip + host_stack]\n"
     "  pushfq\n"
     "  pop qword ptr [rip + machine + 128]\n"
-    "  cld\n"
+    "  push 0x202\n" // the direction flag clear, and no alignment check in C code
+    "  popfq\n"
     "  pop r15\n  pop r14\n  pop r13\n  pop r12\n  pop rbp\n  pop rbx\n"
     "  ret\n"
     ".att_syntax\n");

@@ -59,10 +59,8 @@ pub fn draw(rng: &mut Rng, lowering: Lowering) -> Trial {
     }
 }
 
-/// The sizes of the variables, rounded up to 16.
 pub fn frame(sheet: &Sheet) -> usize {
-    let total = sheet.offsets().last().copied().unwrap_or(0) as usize;
-    total.next_multiple_of(16)
+    sheet.frame() as usize
 }
 
 /// Where the slot of each variable lies in a region with `below` bytes under B.
@@ -103,9 +101,11 @@ fn mix_in_edge_value(rng: &mut Rng, bytes: &mut [u8]) {
     }
 }
 
-/// The direction flag clear, the arithmetic flags at random.
+/// The direction flag clear, the arithmetic flags at random. With AC set the processor itself raises SIGBUS where a
+/// record touches memory that does not lie on its own width.
 fn flags(rng: &mut Rng) -> u64 {
     const ALWAYS: u64 = 0x202;
+    const AC: u64 = 1 << 18;
     const ARITHMETIC: u64 = 0x8d5;
-    ALWAYS | rng.next() & ARITHMETIC
+    ALWAYS | AC | rng.next() & ARITHMETIC
 }

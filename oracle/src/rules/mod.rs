@@ -1,6 +1,7 @@
 //! What requests of 02 take from Krc's authority: each rule is a piece of its own, written from 02, and sets its cells in Krc's own list.
 
 mod short_floats;
+mod slots;
 mod unsigned_shorts;
 
 use crate::sheet::{Sheet, Tables};
@@ -9,8 +10,12 @@ use krc::record::Record;
 /// Sets what a rule says; all other cells stay Krc's.
 type Rule = fn(&Tables, &Sheet, &mut Vec<Record>);
 
-const RULES: [(&str, Rule); 2] =
-    [("M-102", short_floats::apply), ("M-105", unsigned_shorts::apply)];
+/// In the order in which they are applied: the one for slots goes record by record beside Krc's own list.
+const RULES: [(&str, Rule); 3] = [
+    ("M-110", slots::apply),
+    ("M-102", short_floats::apply),
+    ("M-105", unsigned_shorts::apply),
+];
 
 pub fn apply(tables: &Tables, sheet: &Sheet, list: &mut Vec<Record>) {
     for (_, rule) in RULES {
