@@ -134,19 +134,16 @@ fn case_6_last_offset() {
     let full = |last| answered(vec![Type::array(LONG, 131_071), last]);
     assert_eq!(full(Type::scalar(LONG)), Ok(MAX_OFFSET));
     assert_eq!(full(Type::array(BYTE, 9)), Err(Refusal { number: 3, place: 9 }));
-    // the padding alone passes the limit, in a variable and in an empty array
-    let padded = |last| answered(vec![Type::array(BYTE, MAX_OFFSET - 7), last]);
-    assert_eq!(padded(Type::scalar(LONG)), Err(Refusal { number: 3, place: 9 }));
-    assert_eq!(padded(Type::array(LONG, 0)), Ok(MAX_OFFSET));
-    assert_eq!(
-        answered(vec![
-            Type::array(BYTE, MAX_OFFSET - 3),
-            Type::array(SHORT, 0),
-            Type::array(LONG, 0),
-            Type::scalar(BYTE)
-        ]),
-        Err(Refusal { number: 3, place: 13 })
-    );
+    // padding counts: the sizes alone are below the limit
+    let (byte, longs) = (Type::scalar(BYTE), Type::array(LONG, 131_071));
+    assert_eq!(answered(vec![byte, longs]), Ok(MAX_OFFSET));
+    assert_eq!(answered(vec![byte, longs, byte]), Err(Refusal { number: 3, place: 11 }));
+    let bytes = Type::array(BYTE, MAX_OFFSET - 7);
+    let empty = Type::array(LONG, 0);
+    assert_eq!(answered(vec![bytes, empty]), Ok(MAX_OFFSET));
+    assert_eq!(answered(vec![bytes, empty, byte]), Err(Refusal { number: 3, place: 11 }));
+    let custom = Type::scalar(CUSTOM);
+    assert_eq!(answered(vec![bytes, empty, custom]), Err(Refusal { number: 4, place: 0 }));
 }
 
 /// Of Krc's own list the rules set displacements, the frame and the size of a short float, and no other cell.

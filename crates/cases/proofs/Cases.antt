@@ -3,7 +3,7 @@ use Prim.Native.Nat.{ℕ}
 use mathlib.Core.Path.{refl, sym, ap₂, _∙_}
 use mathlib.Core.List.{List, _++_, map-append}
 use Rattle.cells.specs.Cells.{bytesOf, word, half, readCell, readWithin}
-use Rattle.ir.specs.Types.{bytes, lastOffset, typeSize, isFloat, isUnsigned, elementWidth, elfSize, operandSize}
+use Rattle.ir.specs.Types.{bytes, offsetBehind, lastOffset, typeSize, isFloat, isUnsigned, elementWidth, elfSize, operandSize}
 use Rattle.layout.specs.Layout.{endCheck, floatsCheck, tablesCheck, limited, countCheck, zerosCheck, fieldsCheck, typeCheck, returnCheck, varCheck, operandCheck, operandsCheck, destCheck, sideCheck, callCheck, bodyCheck, instrCheck, typesCheck, varsCheck, instrsCheck, listsCheck, restCheck, sheetCheck}
 use Rattle.ir.specs.Function.{binaryOp, tablesOf, operandAt, unaryOp, instrAt, argumentsAt, behind, typesAt, varsAt, operandsAt, linesAt, functionOf}
 use Rattle.x86.specs.Records.{recordOf, recordBytes, listBytes}
@@ -17,7 +17,7 @@ use Rattle.machine.specs.Word.{number, bitwise}
 use Rattle.machine.specs.Encodings.{known}
 use Rattle.machine.specs.Machine as x86
 use Rattle.machine.specs.Steps as steps
-use Rattle.machine.specs.Frames.{offsetFrom}
+use Rattle.machine.specs.Frames.{offsetFrom, behind as frameBehind}
 use Rattle.cases.specs.Cases.{Case, lists, answers, runs, quotients, HoldIn, Hold}
 
 join : (a b : List Case) → HoldIn a → HoldIn b → HoldIn (a ++ b)
@@ -26,7 +26,7 @@ join a b p q =
 
 -- what the cases compute with: to unfold this is to unfold all of it
 opened : Type 0
-unfolding bytesOf word half readCell readWithin bytes typeSize isFloat isUnsigned elementWidth elfSize operandSize endCheck floatsCheck tablesCheck limited countCheck zerosCheck fieldsCheck typeCheck returnCheck varCheck operandCheck operandsCheck destCheck sideCheck callCheck bodyCheck instrCheck typesCheck varsCheck instrsCheck listsCheck restCheck sheetCheck binaryOp tablesOf operandAt unaryOp instrAt argumentsAt behind typesAt varsAt operandsAt linesAt functionOf recordOf recordBytes listBytes displacement stringAt floatAt floatShort labelAt sizeFrom varSize convertVar convertOperand ownSize loadFrom loadString loadValue loadOperand generateReturn operandKind generateCopy castOperand castBetween zeroExtended generateCast generateZero loadArgument loadArguments storeResult generateCall generateJmpIfNot generateLabel generateJump simpleOperation floatOperation twoLoads division multiplication shift unsignedCode compared floatComparison comparison generateBinary generateUnary offsetsFrom lastOffset haveWidths varOffsets storeParams funcPrologue generateInstr generateBody endsInRet withEpilogue generate compiled lowered recordsAfter number bitwise known x86.merge x86.find x86.exec x86.run steps.width steps.binary steps.unary steps.cast steps.find steps.exec steps.run offsetFrom
+unfolding bytesOf word half readCell readWithin bytes typeSize isFloat isUnsigned elementWidth elfSize operandSize endCheck floatsCheck tablesCheck limited countCheck zerosCheck fieldsCheck typeCheck returnCheck varCheck operandCheck operandsCheck destCheck sideCheck callCheck bodyCheck instrCheck typesCheck varsCheck instrsCheck listsCheck restCheck sheetCheck binaryOp tablesOf operandAt unaryOp instrAt argumentsAt behind typesAt varsAt operandsAt linesAt functionOf recordOf recordBytes listBytes displacement stringAt floatAt floatShort labelAt sizeFrom varSize convertVar convertOperand ownSize loadFrom loadString loadValue loadOperand generateReturn operandKind generateCopy castOperand castBetween zeroExtended generateCast generateZero loadArgument loadArguments storeResult generateCall generateJmpIfNot generateLabel generateJump simpleOperation floatOperation twoLoads division multiplication shift unsignedCode compared floatComparison comparison generateBinary generateUnary offsetsFrom offsetBehind lastOffset haveWidths varOffsets storeParams funcPrologue generateInstr generateBody endsInRet withEpilogue generate compiled lowered recordsAfter number bitwise known x86.merge x86.find x86.exec x86.run steps.width steps.binary steps.unary steps.cast steps.find steps.exec steps.run offsetFrom frameBehind
 opened = Unit {0}
 
 lists-hold : HoldIn lists

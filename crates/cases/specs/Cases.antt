@@ -32,7 +32,7 @@ toCells (Prim.Native.Nat.suc n) bs = word bs 0 ∷ toCells n (lib.ListN.drop 8 b
 abbrev pub sheet : ℕ → ℕ → ℕ → List ℕ → List ℕ
 sheet vars params instrs rest = fromCells (vars ∷ params ∷ 0 ∷ 0 ∷ minus 1 ∷ instrs ∷ rest)
 
--- types: long, unsigned long, short, Bool, and arrays of Bytes
+-- types: long, unsigned long, short, Bool, and arrays of Bytes, shorts and longs
 abbrev pub long : List ℕ
 long = 1 ∷ minus 1 ∷ []
 
@@ -47,6 +47,12 @@ bool = 7 ∷ minus 1 ∷ []
 
 abbrev pub byteArray : ℕ → List ℕ
 byteArray n = 9 ∷ n ∷ []
+
+abbrev pub shortArray : ℕ → List ℕ
+shortArray n = 3 ∷ n ∷ []
+
+abbrev pub longArray : ℕ → List ℕ
+longArray n = 1 ∷ n ∷ []
 
 -- operands: a variable, a constant that is short or long, signed or not, float constant 0, nothing
 abbrev pub var : ℕ → List ℕ → List ℕ
@@ -208,14 +214,16 @@ lists =
     ∷ 6 ∷ 2 ∷ 0 ∷ 0 ∷ 0 ∷ 0 ∷ 0 ∷ 0 ∷ [])
     -- no variables and no instructions: six records, frame 0
     ∷ case (frameOf (sheet 0 0 0 []) ∷ summary (answer (sheet 0 0 0 []))) (0 ∷ 0 ∷ 6 ∷ [])
-    -- sizes 4, 1, 8: offsets 4, 5, 13, frame 16
-    ∷ case (frameOf (sheet 3 0 0 (short ++ bool ++ long)) ∷ offsetsOf (sheet 3 0 0 (short ++ bool ++ long))) (16 ∷ 4 ∷ 5 ∷ 13 ∷ 4 ∷ 5 ∷ 13 ∷ [])
-    -- total 17: frame 32
+    -- sizes 4, 1, 8: offsets 4, 5, 16, frame 16 (M-110)
+    ∷ case (frameOf (sheet 3 0 0 (short ++ bool ++ long)) ∷ offsetsOf (sheet 3 0 0 (short ++ bool ++ long))) (16 ∷ 4 ∷ 5 ∷ 16 ∷ 4 ∷ 5 ∷ 16 ∷ [])
+    -- last offset 17: frame 32
     ∷ case (frameOf (sheet 1 0 0 (byteArray 17)) ∷ []) (32 ∷ [])
-    -- sizes 4, 0, 4: offsets 4, 4, 8
-    ∷ case (offsetsOf (sheet 3 0 0 (short ++ byteArray 0 ++ short))) (4 ∷ 4 ∷ 8 ∷ 4 ∷ 4 ∷ 8 ∷ [])
-    -- total 1,048,576 lowers, one more is 3, with the count cell that passes it
-    ∷ case (summary (answer (sheet 2 0 0 (byteArray 1048575 ++ bool))) ++ summary (answer (sheet 2 0 0 (byteArray 1048576 ++ bool)))) (0 ∷ 6 ∷ 3 ∷ 9 ∷ []) ∷ []
+    -- 4, an empty array of shorts, 4: offsets 4, 4, 8; a byte, an empty array of longs, a byte: 1, 8, 9
+    ∷ case (offsetsOf (sheet 3 0 0 (short ++ shortArray 0 ++ short)) ++ offsetsOf (sheet 3 0 0 (bool ++ longArray 0 ++ bool)))
+    (4 ∷ 4 ∷ 8 ∷ 4 ∷ 4 ∷ 8 ∷ 1 ∷ 8 ∷ 9 ∷ 1 ∷ 8 ∷ 9 ∷ [])
+    -- last offset 1,048,576 lowers, one more is 3, with the count cell that passes it; padding counts
+    ∷ case (summary (answer (sheet 2 0 0 (byteArray 1048575 ++ bool))) ++ summary (answer (sheet 2 0 0 (byteArray 1048576 ++ bool)))) (0 ∷ 6 ∷ 3 ∷ 9 ∷ [])
+    ∷ case (summary (answer (sheet 2 0 0 (bool ++ longArray 131071))) ++ summary (answer (sheet 3 0 0 (bool ++ longArray 131071 ++ bool)))) (0 ∷ 6 ∷ 3 ∷ 11 ∷ []) ∷ []
 
 -- instructions
 abbrev pub answers : List Case

@@ -186,12 +186,12 @@ instr-off s c =
     (cell 2 (readWithin s c3 0 largest) two-of-three (λ v c4. count s c4 64 (λ n c5. next (zeros-off s 6 c5) (λ c6. operands-off s n c6))))
     (next (side-off s (hasLeft kind) c3) (λ c4. side-off s (eqb kind 2) c4)))))
 
-types-off : (s : List ℕ) (n total : ℕ) (c : Cursor) → Off (typesCheck s n total c)
+types-off : (s : List ℕ) (n end : ℕ) (c : Cursor) → Off (typesCheck s n end c)
 unfolding typesCheck
-types-off s zero total c = right
-types-off s (suc n) total c =
-    let sum : ℕ = offsetBehind total (record { code = cellAt s (c .at); count = cellAt s (c .at + 1) }) in
-    next (type-off s c) (λ d. pick (ltb 1048576 sum) (wrong 3 (lit≤ tt, lit≤ tt)) (types-off s n sum d))
+types-off s zero end c = right
+types-off s (suc n) end c =
+    let offset : ℕ = offsetBehind end (record { code = cellAt s (c .at); count = cellAt s (c .at + 1) }) in
+    next (type-off s c) (λ d. pick (ltb 1048576 offset) (wrong 3 (lit≤ tt, lit≤ tt)) (types-off s n offset d))
 
 vars-off : (s : List ℕ) (n : ℕ) (c : Cursor) → Off (varsCheck s n c)
 unfolding varsCheck

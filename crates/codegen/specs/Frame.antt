@@ -25,6 +25,7 @@ unfoldable pub offsetsFrom : ℕ → List IrType → List ℕ
 offsetsFrom end [] = []
 offsetsFrom end (t ∷ ts) = offsetBehind end t ∷ offsetsFrom (offsetBehind end t) ts
 
+-- the last offset, which 01's totals mean (02, M-110)
 abbrev pub total : List IrType → ℕ
 total vars = lastOffset 0 vars
 

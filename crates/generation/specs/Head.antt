@@ -10,7 +10,7 @@ use Rattle.layout.specs.declared.Limited.{Limited}
 use Rattle.codegen.specs.Frame.{offsetsFrom}
 use Rattle.frame.specs.declared.Typed.{Typed}
 
--- The total of the variables' sizes stands beside it.
+-- The last offset of the variables stands beside it.
 abbrev pub headed : Limited → Number → Typed
 headed (Limited.Word n c) total = Typed.Sized total c
 headed (Limited.Refused n k) total = Typed.Wrong n k

@@ -38,7 +38,7 @@ abbrev pub framed : ℕ → Outcome ℕ → Counted
 framed bytes (accepted n) = Counted.Frame bytes n
 framed bytes (refused n place) = Counted.Refused n place
 
--- The list follows the total of the variables' sizes.
+-- The list follows the last offset of the variables.
 abbrev pub sizedThen : Number → (ℕ → Outcome ℕ) → Counted
 sizedThen (Number.Is total) rest = framed (rounded total) (rest (rounded total))
 sizedThen (Number.Refused n) rest = Counted.Refused n 0

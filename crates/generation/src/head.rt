@@ -54,7 +54,7 @@ fn rest_head(s: &[u8], vars: u64, params: u64, c: Cursor, offsets: &mut [u64; 25
     }
 }
 
-// It checks the numbers of variables, parameters and labels before these. It gives the total of the variables' sizes and the cursor of the first instruction.
+// It checks the numbers of variables, parameters and labels before these. It gives the last offset of the variables and the cursor of the first instruction.
 pub fn head_check(s: &[u8], offsets: &mut [u64; 256]) -> Typed
     requires { ⌜ length (now offsets) ≡ 256 ⌝ }
     ensures { λ r. ⌜ r ≡ headed (headCheck (now (s .entry))) (sizesAt (now (s .entry)) (cellAt (now (s .entry)) 0) 6) ⌝ }

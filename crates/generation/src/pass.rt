@@ -34,7 +34,7 @@ ghost use Rattle.generation.specs.Answers.{countedOutcome};
 ghost use Rattle.generation.specs.Pass.{listOf, ending};
 ghost use Rattle.generation.specs.Survey.{Opens, OpensIf, LendsIf, countedList, sizedThen, countedSays};
 
-// It has the total of the variables' sizes and the cursor of the first instruction, or a refusal with its place.
+// It has the last offset of the variables and the cursor of the first instruction, or a refusal with its place.
 pub enum Opened {
     Sheet(Number, Cursor),
     Refused(u64, u64),
@@ -54,7 +54,7 @@ fn ending(ret: bool) -> u64
     if ret { 0 } else { 3 }
 }
 
-// It counts the records of the function from the total of its variables' sizes and from what its body came to, or it gives the first refusal.
+// It counts the records of the function from the last offset of its variables and from what its body came to, or it gives the first refusal.
 fn count_list(
     tables: &[u8],
     offsets: &[u64],

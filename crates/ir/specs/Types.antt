@@ -1,4 +1,4 @@
--- Believed: Krc's `Type` and its answers (parser/postparser/structs.rs), Krc's `Operand::size` (converter/ir/structs.rs), and 01's type codes.
+-- Believed: Krc's `Type` and its answers (parser/postparser/structs.rs), Krc's `Operand::size` (converter/ir/structs.rs), 01's type codes, and 02's offsets (M-110).
 use Prim.Native.Nat.{ℕ, _+_, _*_, _/_, _^_, _-_, min}
 use mathlib.Core.List.{List, [], _∷_}
 use mathlib.Core.Bool.{Bool, cond, not, _&&_, _||_}
@@ -39,7 +39,7 @@ bytes ty = cond (isScalar ty) (elementWidth (ty .code)) (elementWidth (ty .code)
 abbrev pub roundedUp : ℕ → ℕ → ℕ
 roundedUp w n = (n + (w - 1)) / w * w
 
--- a variable's offset under RBP, behind one of offset `end`: its size more, rounded up to its element's width; one with no width keeps `end`
+-- a variable's offset under RBP, behind one of offset `end`: `end` plus its size, rounded up to its element's width; one with no width keeps `end`
 -- (02, M-110)
 unfoldable pub offsetBehind : ℕ → IrType → ℕ
 offsetBehind end ty = cond (eqb (elementWidth (ty .code)) 0) end (roundedUp (elementWidth (ty .code)) (end + bytes ty))

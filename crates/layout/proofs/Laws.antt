@@ -195,33 +195,33 @@ vars-run s =
     (λ c d e. let p = var-right s c e in (p .0, omega (arith, p .1 .there)))
     (varsCheck s) (λ c. refl) (λ n c. refl)
 
--- one type, whose bytes the total has room for, and the types behind it
-types-more : (s : List ℕ) (n total : ℕ) (c : Cursor) {d : Cursor} → typesCheck s (suc n) total c ≡ Checked.Behind d →
-    (m : Cursor) × (typeCheck s c ≡ Checked.Behind m) × (offsetBehind total (typeAt s (c .at)) ≤ 1048576) × (typesCheck s n (offsetBehind total
+-- one type, whose offset the limit allows, and the types behind it
+types-more : (s : List ℕ) (n end : ℕ) (c : Cursor) {d : Cursor} → typesCheck s (suc n) end c ≡ Checked.Behind d →
+    (m : Cursor) × (typeCheck s c ≡ Checked.Behind m) × (offsetBehind end (typeAt s (c .at)) ≤ 1048576) × (typesCheck s n (offsetBehind end
     (typeAt s (c .at))) m ≡ Checked.Behind d)
 unfolding typesCheck
-types-more s n total c e =
+types-more s n end c e =
     let p = checked-passed (typeCheck s c) _ e in
     let q = kept _ 3 (c .at + 1) _ (p .2) in
     (p .0, p .1, ltb-false _ _ (q .0), q .1)
 
-pub types-run : (s : List ℕ) (n total : ℕ) (c : Cursor) {d : Cursor} → typesCheck s n total c ≡ Checked.Behind d → Runs s (typeCheck s) 2 n c d
+pub types-run : (s : List ℕ) (n end : ℕ) (c : Cursor) {d : Cursor} → typesCheck s n end c ≡ Checked.Behind d → Runs s (typeCheck s) 2 n c d
 unfolding typesCheck
-types-run s zero total c e = runs-none s (typeCheck s) 2 e
-types-run s (suc n) total c e =
-    let p = types-more s n total c e in
+types-run s zero end c e = runs-none s (typeCheck s) 2 e
+types-run s (suc n) end c e =
+    let p = types-more s n end c e in
     runs-more s (typeCheck s) 2
     (λ c d e. let p = type-right s c e in (p .0, omega (arith, p .2 .there)))
-    n (p .1) (types-run s n (offsetBehind total (typeAt s (c .at))) (p .0) (p .3))
+    n (p .1) (types-run s n (offsetBehind end (typeAt s (c .at))) (p .0) (p .3))
 
-pub types-total : (s : List ℕ) (n total : ℕ) (c : Cursor) {d : Cursor} → typesCheck s n total c ≡ Checked.Behind d → total ≤ 1048576 →
-    lastOffset total (typesAt s n (c .at)) ≤ 1048576
+pub types-total : (s : List ℕ) (n end : ℕ) (c : Cursor) {d : Cursor} → typesCheck s n end c ≡ Checked.Behind d → end ≤ 1048576 →
+    lastOffset end (typesAt s n (c .at)) ≤ 1048576
 unfolding lastOffset typesAt
-types-total s zero total c e h = h
-types-total s (suc n) total c e h =
-    let p = types-more s n total c e in
+types-total s zero end c e h = h
+types-total s (suc n) end c e h =
+    let p = types-more s n end c e in
     let l : p .0 .at ≡ c .at + 2 = type-right s c (p .1) .0 in
-    rw (← l) (types-total s n (offsetBehind total (typeAt s (c .at))) (p .0) (p .3) (p .2))
+    rw (← l) (types-total s n (offsetBehind end (typeAt s (c .at))) (p .0) (p .3) (p .2))
 
 -- ---- instructions
 

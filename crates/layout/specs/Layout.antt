@@ -147,13 +147,13 @@ instrCheck s c =
 
 -- ---- the lists
 
--- n variable types; `total` is the last offset so far, and the count cell whose offset passes the limit is refused
+-- n variable types; `end` is the last offset before them, and the count cell of the variable whose offset first passes the limit is refused (02, M-110)
 unfoldable pub typesCheck : List ℕ → ℕ → ℕ → Cursor → Checked
-typesCheck s zero total c = Checked.Behind c
-typesCheck s (suc n) total c =
+typesCheck s zero end c = Checked.Behind c
+typesCheck s (suc n) end c =
     bindChecked (typeCheck s c) (λ next.
-    let sum : ℕ = offsetBehind total (record { code = cellAt s (c .at); count = cellAt s (c .at + 1) }) in
-    cond (ltb 1048576 sum) (Checked.Refused 3 (c .at + 1)) (typesCheck s n sum next))
+    let offset : ℕ = offsetBehind end (record { code = cellAt s (c .at); count = cellAt s (c .at + 1) }) in
+    cond (ltb 1048576 offset) (Checked.Refused 3 (c .at + 1)) (typesCheck s n offset next))
 
 unfoldable pub varsCheck : List ℕ → ℕ → Cursor → Checked
 varsCheck s zero c = Checked.Behind c

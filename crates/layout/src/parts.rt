@@ -10,7 +10,7 @@ ghost use Rattle.layout.specs.Layout.{endCheck, limited, countCheck, zer
 // The largest number that is not negative.
 pub(crate) const LARGEST: u64 = 0x7fff_ffff_ffff_ffff;
 
-// The largest count of an array, and the largest total of the variables' sizes.
+// The largest count of an array, and the largest offset of a variable.
 pub const MOST_BYTES: u64 = 1048576;
 
 // Nothing is left behind the cursor, not even a torn cell.

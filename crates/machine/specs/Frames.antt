@@ -2,16 +2,16 @@
 -- lowering they share the sizes of types, and no offset.
 use Prim.Native.Nat.{ℕ, zero, suc, _+_, _*_, _-_, _/_, _%_, _<_, _≤_}
 use mathlib.Core.Path.{_≡_}
+use mathlib.Core.Bool.{cond}
 use mathlib.Core.List.{List, [], _∷_}
+use lib.Dec.{eqb}
 use lib.ListN.{length, getD}
 use Rattle.ir.specs.declared.«Type».{«Type» as IrType}
-use mathlib.Core.Bool.{cond}
-use lib.Dec.{eqb}
 use Rattle.ir.specs.Types.{bytes, elementWidth}
 use Rattle.machine.specs.Word.{W, above}
 use Rattle.machine.specs.Plain.{noType}
 
--- the bytes of an element of a type; 0 where it has no width
+-- the width of a type's element; 0 where it has none
 abbrev pub unit : IrType → ℕ
 unit t = elementWidth (t .code)
 

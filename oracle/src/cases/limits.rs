@@ -113,6 +113,8 @@ fn offsets() -> Vec<Input> {
         vec![Type::array(LONG, MAX_COUNT)],
         vec![Type::array(LONG, MAX_OFFSET / 16), Type::array(ADDRESS, MAX_OFFSET / 16)],
         vec![Type::array(LONG, MAX_OFFSET / 16), Type::array(ADDRESS, MAX_OFFSET / 16 + 1)],
+        vec![Type::scalar(BYTE), Type::array(LONG, MAX_OFFSET / 8 - 1)],
+        vec![Type::scalar(BYTE), Type::array(LONG, MAX_OFFSET / 8 - 1), Type::scalar(BYTE)],
     ];
     lists.extend(paddings_at_the_limit());
     let zero_of_the_last = |variables: Vec<Type>| {
@@ -124,7 +126,8 @@ fn offsets() -> Vec<Input> {
     all
 }
 
-/// Bytes up to just below the limit, and then a variable or an array that its padding may take to the limit or past it.
+/// Bytes up to just below the limit, and then a variable, an empty array or one of two elements, whose padding takes the offset up to the limit or leaves
+/// no room for what follows.
 fn paddings_at_the_limit() -> Vec<Vec<Type>> {
     let mut all = Vec::new();
     for below in [1, 3, 4, 5, 7, 8, 9] {
