@@ -50,13 +50,15 @@ pub fn lower(tables: &Tables, sheet: &Sheet) -> Result<Vec<Record>, Refusal> {
     Ok(list)
 }
 
-/// The requests to whose rules the list for these bytes is held; none where there is no list.
-pub fn held(tables: &[u8], sheet: &[u8]) -> Vec<&'static str> {
+/// The requests whose rules alter Krc's answer; none where Krc refuses.
+pub fn held(tables: &[u8], sheet: &[u8], out_len: u64) -> Vec<&'static str> {
     let (Ok(tables), Ok(sheet)) = (read_tables(tables), read_sheet(sheet)) else {
         return Vec::new();
     };
-    let list = krc_list(&tables, &sheet);
-    list.map_or(Vec::new(), |list| rules::held(&tables, &sheet, &list))
+    let Ok(krc) = krc_list(&tables, &sheet) else { return Vec::new() };
+    let answer = fit(krc.clone(), out_len);
+    let altered = rules::alone(&tables, &sheet, &krc);
+    altered.filter(|(_, list)| fit(list.clone(), out_len) != answer).map(|(name, _)| name).collect()
 }
 
 /// Krc's own list, or refusals 4 to 8 with their place.

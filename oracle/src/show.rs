@@ -29,11 +29,11 @@ pub fn summary(cases: &[Case]) -> String {
     text
 }
 
-/// Which cases each rule alters, by their numbers from 0.
+/// The cases whose answer each rule alters, by their numbers from 0.
 pub fn held_cases(cases: &[Case]) -> String {
     let mut numbers: BTreeMap<&str, Vec<String>> = BTreeMap::new();
     for (number, case) in cases.iter().enumerate() {
-        for request in held(&case.tables, &case.sheet) {
+        for request in held(&case.tables, &case.sheet, case.out_len) {
             numbers.entry(request).or_default().push(number.to_string());
         }
     }

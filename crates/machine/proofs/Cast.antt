@@ -74,16 +74,33 @@ cleared n a r e h = rw e (ap (λ (v : ℕ). v % bound 8) (mod-eq-of-lt h) ∙ mo
 filled : (n a r : ℕ) → bound 1 ≤ bound n → a < bound 1 → merge 8 r a % bound n ≡ a
 filled n a r h k = ap (λ (v : ℕ). v % bound n) (zeros-above r a k) ∙ mod-eq-of-lt (omega arith)
 
--- the sign is copied of four bytes that are no unsigned ones
-with-sign : (isFour signed : Bool) (a b : ℕ) → (isFour && not signed) ≡ false → cond (isFour && signed) a b ≡ cond isFour a b
-with-sign true true a b e = refl
-with-sign true false a b e = absurd (false≢true (sym e))
-with-sign false signed a b e = refl
+-- ---- F's step
 
-with-zeros : (isFour signed : Bool) (a b : ℕ) → (isFour && not signed) ≡ true → cond (isFour && signed) a b ≡ b
-with-zeros true true a b e = absurd (false≢true e)
-with-zeros true false a b e = refl
-with-zeros false signed a b e = refl
+cast-low : (signed : Bool) (j n a : ℕ) → leb n j ≡ true → cast signed j n a ≡ a % bound n
+unfolding cast
+cast-low signed j n a g = rw g
+
+-- to more bytes, with zeros where it is an unsigned short
+cast-zeros : (signed : Bool) (j n a : ℕ) → leb n j ≡ false → (eqb j 4 && not signed) ≡ true → cast signed j n a ≡ a
+unfolding cast
+cast-zeros signed j n a g e = rw g (go (eqb j 4) signed e)
+  where
+    go : (b s : Bool) → (b && not s) ≡ true → cond (b && s) (widen 4 n a) a ≡ a
+    go true true e = absurd (false≢true e)
+    go true false e = refl
+    go false s e = refl
+
+-- .. and with the sign where it has four bytes otherwise
+cast-sign : (signed : Bool) (j n a : ℕ) → leb n j ≡ false → (eqb j 4 && not signed) ≡ false → cast signed j n a ≡ cond (eqb j 4) (widen 4 n a) a
+unfolding cast
+cast-sign signed j n a g e = rw g (go (eqb j 4) signed e)
+  where
+    go : (b s : Bool) → (b && not s) ≡ false → cond (b && s) (widen 4 n a) a ≡ cond b (widen 4 n a) a
+    go true true e = refl
+    go true false e = absurd (false≢true (sym e))
+    go false s e = refl
+
+-- ---- the records
 
 module _ (tables : Tables) (F : Function) (h : Ready tables F) (o : ℕ → Choice) (s₀ : State) {m k : ℕ} {σ : Values} (l : Land tables F o s₀ m k σ)
     (d : VarId) (sc : Scalar F d) where
@@ -153,15 +170,12 @@ module _ (tables : Tables) (F : Function) (h : Ready tables F) (o : ℕ → Choi
 
   pub casts : (x : IrOp) → Here tables F k (lower F (Instr.Cast d x)) → PlainOperand F x
       → Moves tables F o s₀ m k (suc k) (put σ (d .id) n (cast (isSigned x) (width x) n (value x σ)))
-  unfolding cast
   casts x e p = go (leb n (width x)) (isUnsignedShort x) refl refl e
     where
       go : (b z : Bool) → leb n (width x) ≡ b → isUnsignedShort x ≡ z → Here tables F k (casting F d x b z)
           → Moves tables F o s₀ m k (suc k) (put σ (d .id) n (cast (isSigned x) (width x) n (value x σ)))
-      go true z q r e = rw q (narrow x e p (leb-true n (width x) q))
+      go true z q r e = rw (cast-low (isSigned x) (width x) n (value x σ) q) (narrow x e p (leb-true n (width x) q))
       go false true q r e =
           let w : width x ≡ 4 = short-width F x p r in
-          rw (q, with-zeros (eqb (width x) 4) (isSigned x) (widen 4 n (value x σ)) (value x σ) (sym (short-is F x p) ∙ r))
-          (zeros x e p w (omega (arith, leb-false n (width x) q)))
-      go false false q r e =
-          rw (q, with-sign (eqb (width x) 4) (isSigned x) (widen 4 n (value x σ)) (value x σ) (sym (short-is F x p) ∙ r)) (wide x e p q)
+          rw (cast-zeros (isSigned x) (width x) n (value x σ) q (sym (short-is F x p) ∙ r)) (zeros x e p w (omega (arith, leb-false n (width x) q)))
+      go false false q r e = rw (cast-sign (isSigned x) (width x) n (value x σ) q (sym (short-is F x p) ∙ r)) (wide x e p q)

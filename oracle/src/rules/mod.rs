@@ -23,12 +23,15 @@ pub fn apply(tables: &Tables, sheet: &Sheet, list: &mut Vec<Record>) {
     }
 }
 
-/// The requests whose rule alone would alter Krc's own list.
-pub fn held(tables: &Tables, sheet: &Sheet, krc: &[Record]) -> Vec<&'static str> {
-    let alters = |rule: Rule| {
+/// Each request, and what its rule alone makes of Krc's own list.
+pub fn alone(
+    tables: &Tables,
+    sheet: &Sheet,
+    krc: &[Record],
+) -> impl Iterator<Item = (&'static str, Vec<Record>)> {
+    RULES.into_iter().map(|(request, rule)| {
         let mut list = krc.to_vec();
         rule(tables, sheet, &mut list);
-        list != krc
-    };
-    RULES.into_iter().filter(|(_, rule)| alters(*rule)).map(|(request, _)| request).collect()
+        (request, list)
+    })
 }
