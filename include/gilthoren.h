@@ -38,8 +38,9 @@ enum { GILTHOREN_RECORD_BYTES = 64 };
 
 /* Lowers the function of a sheet. After 0 the record bytes hold the list at their start and their old content behind it; after a
  * refusal they hold their old content. The list is the one that Krc's `generate` collects before `add_function`, but that a Return and
- * an argument read a short float constant by four bytes, and the refusal the first in the order of the numbers' table (1; then 2 and 3
- * by cell; then 4 to 8 in Krc's order of evaluation; then 9).
+ * an argument read a short float constant by four bytes, and that a cast of an unsigned short to an integer of eight bytes widens with
+ * zeros, by a four-byte load and the store; the refusal is the first in the order of the numbers' table (1; then 2 and 3 by cell; then 4
+ * to 8 in Krc's order of evaluation; then 9).
  *
  * Of a list that is accepted it is proved: slots are disjoint and inside the frame; the frame is the least multiple of 16 not below
  * their total; registers carry parameters and arguments in order; RSP is a multiple of 16 at each call. If the function is plain

@@ -55,9 +55,16 @@ def asked_faults(case):
     return list(range(min(last, 7) + 1))
 
 
+def widens_with_zeros(case):
+    """Whether an unsigned short is cast to eight bytes (M-105): four bytes are loaded into RAX, and eight are stored."""
+    loads = [r[:4] == [0, 0, 1, 0] and r[6] == 4 for r in case.records]
+    stores = [r[:3] == [0, 0, 5] and r[4:] == [1, 0, 8, 0] for r in case.records]
+    return any(load and store for load, store in zip(loads, stores[1:]))
+
+
 def choose(cases, count, most):
-    """The first and last of each refusal, or its two smallest where all are larger than `most`; the smallest with several instructions at fault; then an
-    even spread."""
+    """The first and last of each refusal, or its two smallest where all are larger than `most`; the smallest with several instructions at fault, and with
+    an unsigned short that is widened; then an even spread."""
 
     def size(c):
         return len(c.tables) + len(c.sheet)
@@ -69,7 +76,8 @@ def choose(cases, count, most):
         for c in of[:12] + of[-12:]:
             chosen[c.index] = c
     several = sorted((c for c in cases if len(c.faults) > 1 and c.faults[0] > 0), key=size)
-    chosen.update({c.index: c for c in several[:24]})
+    widened = sorted((c for c in cases if widens_with_zeros(c)), key=size)
+    chosen.update({c.index: c for c in several[:24] + widened[:9]})
     step = max(1, len(small) // max(1, count - len(chosen)))
     for c in small[::step]:
         if len(chosen) < count:

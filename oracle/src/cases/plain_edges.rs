@@ -25,6 +25,7 @@ pub fn drafts() -> Vec<Draft> {
         bodies.into_iter().map(|body| Draft { sheet: Sheet { body, ..base() }, ..tables() }),
     );
     drafts.extend(heads().into_iter().map(|sheet| Draft { sheet, ..tables() }));
+    drafts.extend(page_numbers().into_iter().map(|sheet| Draft { sheet, ..Draft::default() }));
     drafts
 }
 
@@ -250,6 +251,26 @@ fn mixed() -> Vec<Vec<Instr>> {
         vec![lost, Label(2), call],
         vec![Comment, Label(2), Label(2), refused],
     ]
+}
+
+/// A parameter or a constant of four bytes, signed or not, cast to a dest of eight: small functions, which the checker can evaluate.
+fn page_numbers() -> Vec<Sheet> {
+    let mut all = Vec::new();
+    for (to, from) in [LONG, UNSIGNED_LONG, ADDRESS]
+        .into_iter()
+        .flat_map(|to| [SHORT, UNSIGNED_SHORT].map(|from| (to, from)))
+    {
+        let variables = [to, from].map(Type::scalar).to_vec();
+        let sheet = Sheet { variables, ..Sheet::default() };
+        let (dest, param) = (sheet.variable(0), sheet.variable(1));
+        let constant =
+            |value| Operand::Int { value, short: true, unsigned: from == UNSIGNED_SHORT };
+        for src in [Operand::Var(param), constant(1 << 31), constant((1 << 32) - 1)] {
+            let body = vec![Instr::Cast { dest, src }, Instr::Return(Operand::Var(dest))];
+            all.push(Sheet { parameters: vec![param], body, ..sheet.clone() });
+        }
+    }
+    all
 }
 
 fn heads() -> Vec<Sheet> {
