@@ -35,7 +35,7 @@ use Rattle.machine.specs.Simulation.{recordsOfLines}
 use Rattle.machine.proofs.Run.{Known, Fit, all-append}
 use Rattle.machine.proofs.Accepted.{Accepted, records, front, whole, tail, code}
 use Rattle.machine.proofs.Plainness.{Width, one, four, eight, Scalar, FourBytes, Near, Long, PlainOperand, PlainBinary, PlainInstr, Meant}
-use Rattle.machine.proofs.Lowered.{slot, convert, sizeIn, load, general-load, store, simple, compares, two, divides, multiplies, shifts, rightOf, lowerBinary, widening, casting, copies, lower, lowered, operand-width, eight-most, short-width}
+use Rattle.machine.proofs.Lowered.{slot, convert, sizeIn, load, general-load, store, simple, compares, two, divides, multiplies, shifts, rightOf, lowerBinary, widening, casting, lower, lowered, operand-width, eight-most, short-width}
 use Rattle.machine.proofs.Prologue.{near-slot, sized, front-known}
 use Rattle.machine.proofs.Lines.{front-framed}
 use Rattle.machine.proofs.Slots.{frame-le}
