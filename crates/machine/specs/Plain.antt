@@ -110,7 +110,7 @@ isBool Operand.Null = false
 abbrev pub isOneByte : VarId → Bool
 isOneByte d = eqb (bytes (d .ty)) 1
 
--- the width of left and right against dest, and what else an operation asks of dest and right
+-- the width of left and right against dest, and what else an operation asks of dest and right; Div and Rem have a dest of either sign (02, M-106)
 unfoldable pub isPlainBinary : BinaryOp → VarId → Operand → Operand → Bool
 isPlainBinary BinaryOp.Or d x y = false
 isPlainBinary BinaryOp.And d x y = false
