@@ -38,12 +38,17 @@ enum { GILTHOREN_RECORD_BYTES = 64 };
 
 /* Lowers the function of a sheet. After 0 the record bytes hold the list at their start and their old content behind it; after a
  * refusal they hold their old content. The list is the one that Krc's `generate` collects before `add_function`, but that a Return and
- * an argument read a short float constant by four bytes, and that a cast of an unsigned short to an integer of eight bytes widens with
- * zeros, by a four-byte load and the store; the refusal is the first in the order of the numbers' table (1; then 2 and 3 by cell; then 4
- * to 8 in Krc's order of evaluation; then 9).
+ * an argument read a short float constant by four bytes, that a cast of an unsigned short to an integer of eight bytes widens with
+ * zeros, by a four-byte load and the store, and that slots lie on their own width; the refusal is the first in the order of the numbers'
+ * table (1; then 2 and 3 by cell; then 4 to 8 in Krc's order of evaluation; then 9).
  *
- * Of a list that is accepted it is proved: slots are disjoint and inside the frame; the frame is the least multiple of 16 not below
- * their total; registers carry parameters and arguments in order; RSP is a multiple of 16 at each call. If the function is plain
+ * A variable's slot starts at RBP less its offset. The offset is the least multiple of the width of the variable, or of an array's
+ * element, that is not below the offset of the variable before it plus its own size. An array without elements has an offset too. No
+ * offset passes 1,048,576: else refusal 3 names the count cell of the first variable that does.
+ *
+ * Of a list that is accepted it is proved: slots are disjoint and inside the frame; each, and each element of an array, lies at a
+ * multiple of its element's width; the frame is the least multiple of 16 not below the last offset; registers carry parameters and
+ * arguments in order; RSP is a multiple of 16 at each call. If the function is plain
  * (gilthoren_plain says 1), the records, entered as the System V ABI says, simulate it step by step: at most 12 + 5 n records for n
  * steps, each slot holding its variable's value, faults and returns exactly where the function has them, no byte changed outside the
  * frame and the saved RBP. Div and Rem are signed where dest is long or short: the quotient is rounded toward zero and the remainder

@@ -111,7 +111,7 @@ def owners(types):
     owner, offset = {}, 0
     for variable, (kind, count) in enumerate(types):
         size = SIZES[kind] * (1 if count == -1 else count)
-        offset += size
+        offset = -(-(offset + size) // SIZES[kind]) * SIZES[kind]
         owner.update({at - offset: variable for at in range(size)})
     return owner
 

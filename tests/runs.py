@@ -108,17 +108,20 @@ class Run:
         self.registers[4] = RSP
 
 
-    def sizes(self):
-        """The variables' sizes, from the sheet's own cells; Custom and Null have none."""
+    def widths(self):
+        """The variables' widths, an element's of an array, from the sheet's own cells; Custom and Null have none."""
         widths = {1: 8, 2: 8, 3: 4, 4: 4, 7: 1, 8: 1, 9: 1, 10: 8}
-        types = self.cells[6:6 + 2 * self.cells[0]]
-        return [widths[code] * (1 if count == -1 else count) for code, count in zip(types[::2], types[1::2])]
+        return [widths[code] for code in self.cells[6:6 + 2 * self.cells[0]:2]]
+
+    def sizes(self):
+        counts = self.cells[7:7 + 2 * self.cells[0]:2]
+        return [width * (1 if count == -1 else count) for width, count in zip(self.widths(), counts)]
 
     def memory_after(self):
         """From eight bytes below the frame to 24 above its end: the slots, the saved RBP, everything else as it was."""
         bytes_, at, offset = bytearray(self.frame), 0, 0
-        for size in self.sizes():
-            offset += size
+        for width, size in zip(self.widths(), self.sizes()):
+            offset = -(-(offset + size) // width) * width
             start = len(bytes_) - offset
             bytes_[start:start + size] = self.variables[at:at + size]
             at += size

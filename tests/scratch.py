@@ -17,13 +17,15 @@ def unfoldable():
 
 
 def unfolding(modules):
-    """The lines that bring the definitions in and unfold them; Machine, as x86, and Steps, as steps, only where asked for, by their names there."""
+    """The lines that bring the definitions in and unfold them; Machine, as x86, and Steps, as steps, only where asked for, by their names there.
+    A name that another module before it has too is brought in with its module's."""
     named = {"x86": "Rattle.machine.specs.Machine", "steps": "Rattle.machine.specs.Steps"}
     uses, names = [], []
     for module, found in unfoldable().items():
         if module not in named.values():
-            uses.append(f"use {module}.{{{', '.join(found)}}}")
-            names += found
+            own = {n: f"{module.split('.')[-1]}-{n}" if n in names else n for n in found}
+            uses.append(f"use {module}.{{{', '.join(n if n == o else f'{n} as {o}' for n, o in own.items())}}}")
+            names += own.values()
     for name in modules:
         uses.append(f"use {named[name]} as {name}")
         names += [f"{name}.{n}" for n in unfoldable()[named[name]]]

@@ -341,10 +341,10 @@ bool intel_variable(const struct record *record, const struct sheet_text *sheet,
     size_t variables = (size_t)cell_at(parts.sheet, 0);
     for (size_t v = 0; v < variables; v++) {
         size_t cell = SHEET_HEAD + 2 * v;
-        int64_t size = sheet_type_size(cell_at(parts.sheet, cell), cell_at(parts.sheet, cell + 1));
-        offset += size;
+        int64_t code = cell_at(parts.sheet, cell), count = cell_at(parts.sheet, cell + 1);
+        offset = sheet_offset_behind(offset, code, count);
         *variable = v;
-        if (value >= -offset && value < size - offset) return true;
+        if (value >= -offset && value < sheet_type_size(code, count) - offset) return true;
     }
     return false;
 }

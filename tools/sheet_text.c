@@ -17,6 +17,11 @@ int64_t sheet_type_size(int64_t code, int64_t count) {
     return count == -1 ? sizes[code] : sizes[code] * count;
 }
 
+int64_t sheet_offset_behind(int64_t end, int64_t code, int64_t count) {
+    int64_t width = sheet_type_size(code, -1);
+    return width ? (end + sheet_type_size(code, count) + width - 1) / width * width : end;
+}
+
 bool sheet_split(const struct bytes *input, struct sheet_parts *parts) {
     if (input->count < CELL) return false;
     int64_t count = cell_at(input->at, 0);

@@ -82,6 +82,10 @@ enum sheet_instr {
 /* Bytes of a variable: 0 for one with no width. Code and count are as a readable sheet has them. */
 int64_t sheet_type_size(int64_t code, int64_t count);
 
+/* A variable's offset behind one of offset `end`: the least multiple of its element's width not below `end` plus its size; `end` for one with
+ * no width. */
+int64_t sheet_offset_behind(int64_t end, int64_t code, int64_t count);
+
 /* Cells before the variable types. */
 enum { SHEET_HEAD = 6 };
 

@@ -11,7 +11,7 @@ enum {
     MAX_INSTRUCTIONS = 4096,
     MAX_ARGUMENTS = 64,
     MAX_COUNT = 1048576,
-    MAX_TOTAL = 1048576
+    MAX_OFFSET = 1048576
 };
 
 /* A scan over tables or sheet. After a refusal it stays at its cell, and every cell reads as its least value. */
@@ -231,14 +231,14 @@ static void write_tables(struct scan *s) {
     }
 }
 
-/* The variables; the count that takes the total of their sizes over its limit is oversize. */
+/* The variables; the count of the one whose offset passes its limit is oversize. */
 static void write_variables(struct scan *s, int64_t variables) {
-    int64_t total = 0;
+    int64_t offset = 0;
     s->types = s->at + SHEET_HEAD * CELL;
     for (int64_t i = 0; i < variables && !s->refusal.number; i++) {
         int64_t code = take(s, 1, SHEET_TYPES - 1), count = take_count(s, -1, MAX_COUNT);
-        total += sheet_type_size(code, count);
-        if (total > MAX_TOTAL) refuse(s, OVERSIZE, s->cell - 1);
+        offset = sheet_offset_behind(offset, code, count);
+        if (offset > MAX_OFFSET) refuse(s, OVERSIZE, s->cell - 1);
         bytes_print(s->text, "variable ");
         put_type(s, code, count);
         bytes_print(s->text, "  # v%lld\n", (long long)i);

@@ -6,7 +6,7 @@ use mathlib.Core.List.{List, [], _∷_}
 use lib.Dec.{ltb, eqb}
 use lib.ListN.{length, getD}
 use lib.Arith.{lt-of-le-ne}
-use native.Mathlib.Nat.{not-suc-le-zero, le-of-suc-le-suc, mul-mod-left}
+use native.Mathlib.Nat.{not-suc-le-zero, le-of-suc-le-suc, le-trans, mul-mod-left}
 use native.Mathlib.Omega.{arith}
 use borrow.Author.Tests.{eqb-true, eqb-false, lt-ltb, ltb-true, ltb-false}
 use Rattle.ir.specs.declared.«Type».{«Type» as IrType}
@@ -22,6 +22,11 @@ use Rattle.machine.proofs.Numbers.{byte-mod, above-up, above-down, addr
 
 abbrev up : ℕ → ℕ → ℕ → ℕ
 up w end n = cond (eqb w 0) end ((end + n + (w - 1)) / w * w)
+
+behind-multiple : (end : ℕ) (t : IrType) → 0 < unit t → behind end t % unit t ≡ 0
+unfolding behind
+behind-multiple end t h =
+    each-width (λ w. 0 < w → up w end (bytes t) % w ≡ 0) (t .code) (λ h. omega arith) (λ h. omega arith) (λ h. omega arith) (λ h. omega arith) h
 
 -- a type with no width has no bytes
 no-bytes : (t : IrType) → unit t ≡ 0 → bytes t ≡ 0
@@ -42,7 +47,7 @@ stepped : (end : ℕ) (t : IrType) → 0 < unit t → Stepped end t
 unfolding behind
 stepped end t h =
     record {
-      multiple = each-width (λ w. 0 < w → up w end (bytes t) % w ≡ 0) (t .code) (λ h. omega arith) (λ h. omega arith) (λ h. omega arith) (λ h. omega arith) h;
+      multiple = behind-multiple end t h;
       enough = grows end t;
       least = each-width (λ w. 0 < w → (n : ℕ) → n % w ≡ 0 → end + bytes t ≤ n → up w end (bytes t) ≤ n) (t .code) (λ h n a b. omega arith)
           (λ h n a b. omega arith) (λ h n a b. omega arith) (λ h n a b. omega arith) h;
@@ -51,7 +56,7 @@ stepped end t h =
 offset-multiple : (end : ℕ) (ts : List IrType) (x : ℕ) → x < length ts → 0 < unitOf ts x → offsetFrom end ts x % unitOf ts x ≡ 0
 unfolding offsetFrom
 offset-multiple end [] x h k = absurd (not-suc-le-zero h)
-offset-multiple end (t ∷ ts) zero h k = stepped end t k .multiple
+offset-multiple end (t ∷ ts) zero h k = behind-multiple end t k
 offset-multiple end (t ∷ ts) (suc x) h k = offset-multiple (behind end t) ts x (le-of-suc-le-suc h) k
 
 -- an address that far below a multiple of 16
@@ -64,7 +69,7 @@ lies b o j code h k e f g =
 depth-grows : (end : ℕ) (ts : List IrType) → end ≤ depthFrom end ts
 unfolding depthFrom
 depth-grows end [] = omega arith
-depth-grows end (t ∷ ts) = omega (arith, grows end t, depth-grows (behind end t) ts)
+depth-grows end (t ∷ ts) = le-trans (omega (arith, grows end t)) (depth-grows _ ts)
 
 offset-from-le : (end : ℕ) (ts : List IrType) (x : ℕ) → x < length ts → offsetFrom end ts x ≤ depthFrom end ts
 unfolding offsetFrom depthFrom
