@@ -9,9 +9,9 @@ use Rattle.ir.specs.Function.{binaryOp, tablesOf, operandAt, unaryOp, instrAt, 
 use Rattle.x86.specs.Records.{recordOf, recordBytes, listBytes}
 use Rattle.codegen.specs.Context.{displacement, stringAt, floatAt, floatShort, labelAt}
 use Rattle.codegen.specs.Utils.{sizeFrom, varSize, convertVar, convertOperand, ownSize, loadFrom, loadString, loadValue, loadOperand}
-use Rattle.codegen.specs.Instructions.{generateReturn, operandKind, generateCopy, castOperand, castBetween, zeroExtended, generateCast, generateZero, loadArgument, loadArguments, storeResult, generateCall, generateJmpIfNot, generateLabel, generateJump}
+use Rattle.codegen.specs.Instructions.{generateReturn, operandKind, generateCopy, castOperand, castBetween, zeroExtended, generateCast, generateZero, excess, loadArguments, pushArguments, storeResult, generateCall, generateJmpIfNot, generateLabel, generateJump}
 use Rattle.codegen.specs.Arithmetic.{simpleOperation, floatOperation, twoLoads, division, multiplication, shift, unsignedCode, compared, floatComparison, comparison, generateBinary, generateUnary}
-use Rattle.codegen.specs.Frame.{offsetsFrom, haveWidths, varOffsets, storeParams, funcPrologue}
+use Rattle.codegen.specs.Frame.{offsetsFrom, haveWidths, varOffsets, storeParams, copyParams, funcPrologue}
 use Rattle.codegen.specs.Generation.{generateInstr, generateBody, endsInRet, withEpilogue, generate, compiled, lowered, recordsAfter}
 use Rattle.machine.specs.Word.{number, bitwise}
 use Rattle.machine.specs.Encodings.{known}
@@ -26,7 +26,7 @@ join a b p q =
 
 -- what the cases compute with: to unfold this is to unfold all of it
 opened : Type 0
-unfolding bytesOf word half readCell readWithin bytes typeSize isFloat isUnsigned elementWidth elfSize operandSize endCheck floatsCheck tablesCheck limited countCheck zerosCheck fieldsCheck typeCheck returnCheck varCheck operandCheck operandsCheck destCheck sideCheck callCheck bodyCheck instrCheck typesCheck varsCheck instrsCheck listsCheck restCheck sheetCheck binaryOp tablesOf operandAt unaryOp instrAt argumentsAt behind typesAt varsAt operandsAt linesAt functionOf recordOf recordBytes listBytes displacement stringAt floatAt floatShort labelAt sizeFrom varSize convertVar convertOperand ownSize loadFrom loadString loadValue loadOperand generateReturn operandKind generateCopy castOperand castBetween zeroExtended generateCast generateZero loadArgument loadArguments storeResult generateCall generateJmpIfNot generateLabel generateJump simpleOperation floatOperation twoLoads division multiplication shift unsignedCode compared floatComparison comparison generateBinary generateUnary offsetsFrom offsetBehind lastOffset haveWidths varOffsets storeParams funcPrologue generateInstr generateBody endsInRet withEpilogue generate compiled lowered recordsAfter number bitwise known x86.merge x86.find x86.exec x86.run steps.width steps.binary steps.unary steps.cast steps.find steps.exec steps.run offsetFrom frameBehind
+unfolding bytesOf word half readCell readWithin bytes typeSize isFloat isUnsigned elementWidth elfSize operandSize endCheck floatsCheck tablesCheck limited countCheck zerosCheck fieldsCheck typeCheck returnCheck varCheck operandCheck operandsCheck destCheck sideCheck callCheck bodyCheck instrCheck typesCheck varsCheck instrsCheck listsCheck restCheck sheetCheck binaryOp tablesOf operandAt unaryOp instrAt argumentsAt behind typesAt varsAt operandsAt linesAt functionOf recordOf recordBytes listBytes displacement stringAt floatAt floatShort labelAt sizeFrom varSize convertVar convertOperand ownSize loadFrom loadString loadValue loadOperand generateReturn operandKind generateCopy castOperand castBetween zeroExtended generateCast generateZero excess loadArguments pushArguments storeResult generateCall generateJmpIfNot generateLabel generateJump simpleOperation floatOperation twoLoads division multiplication shift unsignedCode compared floatComparison comparison generateBinary generateUnary offsetsFrom offsetBehind lastOffset haveWidths varOffsets storeParams copyParams funcPrologue generateInstr generateBody endsInRet withEpilogue generate compiled lowered recordsAfter number bitwise known x86.merge x86.find x86.exec x86.run steps.width steps.binary steps.unary steps.cast steps.find steps.exec steps.run offsetFrom frameBehind
 opened = Unit {0}
 
 lists-hold : HoldIn lists

@@ -4,7 +4,7 @@ use Prim.Native.Nat.{ℕ, _+_, _*_, _^_}
 use mathlib.Core.Path.{_≡_}
 use mathlib.Core.Bool.{false}
 use mathlib.Core.List.{List, [], _∷_, _++_, map}
-use lib.ListN.{length, getD, replicate}
+use lib.ListN.{length, getD, take, drop, replicate}
 use Rattle.cells.specs.Cells.{bytesOf, minus, word}
 use Rattle.ir.specs.Types as types
 use Rattle.ir.specs.Types.{Result, ok}
@@ -176,6 +176,9 @@ calling args = sheet 0 0 1 (instr 5 0 noDest (0 ∷ length args ∷ 0 ∷ 0 ∷ 
     concat [] = []
     concat (x ∷ xs) = x ++ concat xs
 
+abbrev pub seventh : List ℕ
+seventh = calling (replicate 7 (int 5 0))
+
 abbrev pub lessThan : List ℕ → List ℕ
 lessThan ty = sheet 2 0 1 (bool ++ ty ++ instr 2 7 (0 ∷ bool) (var 1 ty) (var 1 ty))
 
@@ -228,9 +231,12 @@ lists =
 -- instructions
 abbrev pub answers : List Case
 answers =
-    -- six plain and eight float arguments lower, a seventh plain is 8
-    case (summary (answerBy oneFloat (calling (replicate 6 (int 5 0) ++ replicate 8 float))) ++ summary (answer (calling (replicate 7 (int 5 0)))))
-    (0 ∷ 22 ∷ 8 ∷ 1 ∷ [])
+    -- six plain and eight float arguments lower, and a seventh plain (M-112): behind the prologue RSP is lowered by 16, and RAX with the seventh stored there
+    case (summary (answerBy oneFloat (calling (replicate 6 (int 5 0) ++ replicate 8 float))) ++ summary (answer seventh) ++ take 24 (drop 24 (cellsOf seventh)))
+    (0 ∷ 22 ∷ 0 ∷ 18
+    ∷ 0 ∷ 3 ∷ 1 ∷ 4 ∷ 2 ∷ 16 ∷ 0 ∷ 0
+    ∷ 0 ∷ 0 ∷ 1 ∷ 0 ∷ 2 ∷ 5 ∷ 8 ∷ 0
+    ∷ 0 ∷ 0 ∷ 8 ∷ 0 ∷ 1 ∷ 0 ∷ 8 ∷ 0 ∷ [])
     -- logical And is 7
     ∷ case (summary (answer (sheet 1 0 1 (bool ++ instr 2 1 (0 ∷ bool) (var 0 bool) (var 0 bool))))) (7 ∷ 1 ∷ [])
     -- Lt on unsigned long uses code 8, on long 4: the operation of the seventh record, SetCC

@@ -1,5 +1,6 @@
 pub mod Results
 pub mod Lowers
 pub mod Shapes
+pub mod Stacked
 pub mod Refusals
 pub mod Codes

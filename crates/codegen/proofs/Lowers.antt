@@ -1,4 +1,4 @@
--- What an instruction is lowered to: what its maker looked up, and the list that it then gave. Every answer is such a list or a refusal by 4 to 8.
+-- What an instruction is lowered to: what its maker looked up, and the list that it then gave. Every answer is such a list or a refusal by 4 to 7.
 use Prim.Native.Nat.{ℕ, suc}
 use mathlib.Core.Path.{_≡_, refl}
 use mathlib.Core.Bool.{Bool, true, false, cond, not, _&&_, false≢true}
@@ -29,7 +29,7 @@ use Rattle.x86.specs.declared.enums.Instruction.{Instruction}
 use Rattle.x86.specs.Registers.{xmm, RAX, RCX, RDX, RDI}
 use Rattle.codegen.specs.Context.{Context, displacement, stringAt, floatAt, floatShort, labelAt}
 use Rattle.codegen.specs.Utils.{sizeFrom, varSize, convertVar, convertOperand, loadString, loadValue, loadOperand}
-use Rattle.codegen.specs.Instructions.{move, Kind, operandKind, isCopy, Source, widened, converted, extended, castOperand, castBetween, isUnsignedShort, zeroExtended, funcEpilogue, generateReturn, generateCopy, generateCast, generateZero, floating, paramRegs, paramFregs, loadArgument, loadArguments, storeResult, generateCall, generateJmpIfNot, generateLabel, generateJump}
+use Rattle.codegen.specs.Instructions.{move, Kind, operandKind, isCopy, Source, widened, converted, extended, castOperand, castBetween, isUnsignedShort, zeroExtended, funcEpilogue, generateReturn, generateCopy, generateCast, generateZero, floating, isSpent, wordsTaken, floatsTaken, excess, registerOf, loadArguments, pushArguments, storeResult, generateCall, generateJmpIfNot, generateLabel, generateJump}
 use Rattle.codegen.specs.Arithmetic.{simpleOperation, floatOperation, twoLoads, dividing, division, multiplication, shift, isSwapped, ordered, compared, floatComparison, comparison, generateBinary, unaryRecords, generateUnary}
 use Rattle.codegen.specs.Frame.{storeOf}
 use Rattle.codegen.specs.Generation.{generateInstr}
@@ -201,16 +201,17 @@ module _ (ctx : Context) where
 
   -- ---- calls
 
-  argument : (regs : List Register) (k : ℕ) (x : IrOp) → Slips (loadArgument ctx regs k x)
-  unfolding loadArgument
-  argument regs k x = either (ltb k (length regs)) (λ e. load _ x Size.NoSize) (λ e. slip 8 refl refl)
-
   loads : (i f : ℕ) (xs : List IrOp) → Slips (loadArguments ctx i f xs)
   unfolding loadArguments
   loads i f [] = fine
   loads i f (x ∷ xs) =
-      either (floating x) (λ e. look (argument paramFregs f x) (λ a p. look (loads i (suc f) xs) (λ l q. fine)))
-      (λ e. look (argument paramRegs i x) (λ a p. look (loads (suc i) f xs) (λ l q. fine)))
+      either (isSpent (floating x) i f) (λ e. loads i f xs)
+      (λ e. look (load (registerOf (floating x) i f) x Size.NoSize) (λ a p. look (loads (wordsTaken (floating x) i) (floatsTaken (floating x) f) xs) (λ l q. fine)))
+
+  pushes : (j : ℕ) (xs : List IrOp) → Slips (pushArguments ctx j xs)
+  unfolding pushArguments
+  pushes j [] = fine
+  pushes j (x ∷ xs) = look (load RAX x Size.NoSize) (λ a p. look (pushes (suc j) xs) (λ l q. fine))
 
   result : (d : Dest) → Slips (storeResult ctx d)
   unfolding storeResult
@@ -219,7 +220,7 @@ module _ (ctx : Context) where
 
   call : (d : Dest) (f : ℕ) (xs : List IrOp) → Slips (generateCall ctx d f xs)
   unfolding generateCall
-  call d f xs = look (loads 0 0 xs) (λ l _. look (result d) (λ s _. fine))
+  call d f xs = look (pushes 0 (excess floating 0 0 xs)) (λ p _. look (loads 0 0 xs) (λ l _. look (result d) (λ s _. fine)))
 
   -- ---- makers
 

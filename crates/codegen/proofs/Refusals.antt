@@ -1,4 +1,4 @@
--- Which numbers are answered: the layout refuses by 1 to 3, the lowering by 4 to 8, a page by 9.
+-- Which numbers are answered: the layout refuses by 1 to 3, the lowering by 4 to 7, a page by 9. 8, registers spent, no longer occurs (M-112).
 use Prim.Native.Nat.{ℕ, zero, suc, _+_, _*_, _≤_}
 use mathlib.Core.Path.{_≡_, refl, subst}
 use mathlib.Core.Bool.{Bool, true, false, cond, _||_, Bool·beq}
@@ -18,10 +18,11 @@ use Rattle.ir.specs.Types.{noArray, offsetBehind, Result, isFloat}
 use Rattle.ir.specs.Function.{Function, Line, Tables, tablesOf, functionOf}
 use Rattle.x86.specs.declared.enums.Instruction.{Instruction}
 use Rattle.codegen.specs.Context.{Context, contextOf}
-use Rattle.codegen.specs.Frame.{haveWidths, varOffsets, frame, registersOf, storeParams, funcPrologue}
+use Rattle.codegen.specs.Instructions.{excess}
+use Rattle.codegen.specs.Frame.{haveWidths, varOffsets, frame, registersOf, storeParams, copyParams, isFloatParam, funcPrologue}
 use Rattle.codegen.specs.Generation as generation
 use Rattle.codegen.specs.Generation.{Outcome, accepted, at, generateBody, generate, checked, compiled, page, lowered}
-use Rattle.codegen.proofs.Results.{FourToEight, Closed, gives, slips, Slips, fine, slip, look, either}
+use Rattle.codegen.proofs.Results.{FourToSeven, Closed, gives, slips, Slips, fine, slip, look, either}
 use Rattle.codegen.proofs.Lowers.{var, var-size, lowers}
 
 -- ---- the prologue
@@ -35,9 +36,14 @@ module _ (ctx : Context) where
       (λ _. either (ltb k (length (registersOf f)))
       (λ _. look (var ctx p) (λ y _. look (var-size p) (λ z _. look (stores f (suc k) ps) (λ l _. fine)))) (λ _. fine)) (λ _. stores f k ps)
 
+  copies : (j : ℕ) (ps : List VarId) → Slips (copyParams ctx j ps)
+  unfolding copyParams
+  copies j [] = fine
+  copies j (p ∷ ps) = look (var-size p) (λ z _. look (var ctx p) (λ y _. look (copies (suc j) ps) (λ l _. fine)))
+
   prologue : (n : ℕ) (ps : List VarId) → Slips (funcPrologue ctx n ps)
   unfolding funcPrologue
-  prologue n ps = look (stores false 0 ps) (λ a _. look (stores true 0 ps) (λ b _. fine))
+  prologue n ps = look (stores false 0 ps) (λ a _. look (stores true 0 ps) (λ b _. look (copies 0 (excess isFloatParam 0 0 ps)) (λ d _. fine)))
 
 offsets : (vars : List IrType) → Slips (varOffsets vars)
 unfolding varOffsets
@@ -45,23 +51,23 @@ offsets vars = either (haveWidths vars) (λ _. fine) (λ _. slip 4 refl refl)
 
 -- ---- the whole list
 
--- a refusal is one of 4 to 8, at whatever place
+-- a refusal is one of 4 to 7, at whatever place
 pub record Turned {A : Type 0} (r : Outcome A) : Type 0 where
-  pub of : (n p : ℕ) → r ≡ generation.refused n p → FourToEight n
+  pub of : (n p : ℕ) → r ≡ generation.refused n p → FourToSeven n
 
 not-accepted : {A : Type 0} {a : A} {n p : ℕ} → accepted a ≡ generation.refused n p → ⊥
 not-accepted e = let z : _≡_ {A = ℕ} 0 1 = cc in omega arith
 
 placed : {A B : Type 0} {P : A → Type 0} {r : Result A} {f : A → Outcome B} (p : ℕ) → Closed P r → ((a : A) → Turned (f a)) → Turned (generation._>>=_ (at p r) f)
 placed p (gives h) k = k _
-placed p (slips h) k = record { of = λ m q z. subst FourToEight (let y = z in cc) h }
+placed p (slips h) k = record { of = λ m q z. subst FourToSeven (let y = z in cc) h }
 
 followed : {A B : Type 0} {r : Outcome A} {f : A → Outcome B} → Turned r → ((a : A) → Turned (f a)) → Turned (generation._>>=_ r f)
 followed {A} {B} {r} {f} h k = go r refl
   where
     go : (q : Outcome A) → r ≡ q → Turned (generation._>>=_ q f)
     go (accepted a) e = k a
-    go (generation.refused n p) e = record { of = λ m q z. subst FourToEight (let y = z in cc) (h .of n p e) }
+    go (generation.refused n p) e = record { of = λ m q z. subst FourToSeven (let y = z in cc) (h .of n p e) }
 
 done : {A : Type 0} {a : A} → Turned (accepted a)
 done = record { of = λ n p e. absurd (not-accepted e) }
@@ -72,9 +78,9 @@ body ctx labels ret i [] = done
 body ctx labels ret i (l ∷ ls) = placed i (lowers ctx labels ret (l .instr) (l .args)) (λ a. followed (body ctx labels ret (suc i) ls) (λ b. done))
 
 -- .. behind a layout that is right
-pub four-to-eight : (tables : Tables) (F : Function) → Turned (generate tables F)
+pub four-to-seven : (tables : Tables) (F : Function) → Turned (generate tables F)
 unfolding generate
-four-to-eight tables F =
+four-to-seven tables F =
     placed 0 (offsets (F .vars)) (λ o. placed 0 (prologue (contextOf tables o) (frame (F .vars)) (F .params)) (λ p.
     followed (body (contextOf tables o) (F .labels) (F .ret) 1 (F .body)) (λ b. done)))
 
@@ -212,9 +218,9 @@ sheet-off s =
 
 -- ---- every answer
 
--- a refusal is one of 1 to 9 (01, "The turned-away slip")
+-- a refusal is one of 1 to 7, or 9 (01, "The turned-away slip"; M-112: 8 no longer occurs)
 abbrev pub Known : ℕ → Type 0
-Known n = (1 ≤ n) × (n ≤ 9)
+Known n = (1 ≤ n) × (n ≤ 9) × (n ≡ 8 → ⊥)
 
 pub record Answers {A : Type 0} (r : Outcome A) : Type 0 where
   pub of : (n p : ℕ) → r ≡ generation.refused n p → Known n
@@ -222,21 +228,21 @@ pub record Answers {A : Type 0} (r : Outcome A) : Type 0 where
 after : {A : Type 0} (c : Checked) (rest : Unit {0} → Outcome A) → Off c → Answers (rest tt) → Answers (checked c rest)
 after (Checked.Behind c) rest h k = k
 after (Checked.Refused n cell) rest h k =
-    record { of = λ m p e. let l : n ≡ m = let z = e in cc in let (a, b) = h .of n cell refl in (omega arith, omega arith) }
+    record { of = λ m p e. let (a, b) = h .of n cell refl in subst Known (let z = e in cc) (omega arith, omega arith, λ (z : n ≡ 8). omega arith) }
 
 compiled-answers : (tables sheet : List ℕ) → Answers (compiled tables sheet)
 unfolding compiled
 compiled-answers tables sheet =
     after (tablesCheck tables) _ (tables-off tables) (after (sheetCheck sheet) _ (sheet-off sheet)
-    (record { of = λ n p e. let (a, b) = four-to-eight (tablesOf tables) (functionOf sheet) .of n p e in (omega arith, omega arith) }))
+    (record { of = λ n p e. let (a, b) = four-to-seven (tablesOf tables) (functionOf sheet) .of n p e in (omega arith, omega arith, λ z. omega arith) }))
 
--- every refusal has one of the numbers of the scope
+-- every refusal has one of the numbers of the scope but 8
 pub lowered-answers : (tables sheet : List ℕ) (m : ℕ) → Answers (lowered tables sheet m)
 unfolding lowered
 lowered-answers tables sheet m = go (compiled tables sheet) refl
   where
     paged : (is : List Instruction) (b : Bool) → Answers (cond b (generation.refused 9 (length is)) (accepted is))
-    paged is true = record { of = λ n p e. let l : 9 ≡ n = let z = e in cc in (omega arith, omega arith) }
+    paged is true = record { of = λ n p e. subst Known (let z = e in cc) (lit≤ tt, lit≤ tt, λ (z : _≡_ {A = ℕ} 9 8). omega arith) }
     paged is false = record { of = λ n p e. absurd (not-accepted e) }
 
     go : (r : Outcome (List Instruction)) → compiled tables sheet ≡ r → Answers (generation._>>=_ r (page m))

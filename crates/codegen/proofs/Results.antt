@@ -45,14 +45,14 @@ guard n b h = choose b h (λ e. refuses n)
 
 -- ---- the refusals too
 
--- the numbers by which the lowering refuses (01, "The turned-away slip")
-abbrev pub FourToEight : ℕ → Type 0
-FourToEight n = (4 ≤ n) × (n ≤ 8)
+-- the numbers by which the lowering refuses (01, "The turned-away slip"); 8 no longer occurs (02, M-112)
+abbrev pub FourToSeven : ℕ → Type 0
+FourToSeven n = (4 ≤ n) × (n ≤ 7)
 
 -- a value of which P holds, or a refusal by one of these numbers
 pub data Closed {A : Type 0} (P : A → Type 0) : Result A → Type 0 where
   gives : {a : A} → P a → Closed P (ok a)
-  slips : {n : ℕ} → FourToEight n → Closed P (refused n)
+  slips : {n : ℕ} → FourToSeven n → Closed P (refused n)
 
 -- .. of a value of which nothing is asked
 abbrev pub Slips : {A : Type 0} → Result A → Type 0
@@ -61,8 +61,8 @@ Slips r = Closed (λ a. Unit {0}) r
 pub fine : {A : Type 0} {a : A} → Slips (ok a)
 fine = gives tt
 
-pub slip : {A : Type 0} {P : A → Type 0} (n : ℕ) → leb 4 n ≡ true → leb n 8 ≡ true → Closed P (refused n)
-slip n g h = slips (leb-true 4 n g, leb-true n 8 h)
+pub slip : {A : Type 0} {P : A → Type 0} (n : ℕ) → leb 4 n ≡ true → leb n 7 ≡ true → Closed P (refused n)
+slip n g h = slips (leb-true 4 n g, leb-true n 7 h)
 
 -- a part, and what follows from what it found
 pub look : {A B : Type 0} {r : Result A} {f : A → Result B} {Q : B → Type 0} → Slips r → ((a : A) → r ≡ ok a → Closed Q (f a)) → Closed Q (r >>= f)

@@ -1,11 +1,11 @@
 -- The records of one instruction are few, and the last of them is Ret exactly where the instruction is a Return.
-use Prim.Native.Nat.{ℕ, suc, _+_, _<_, _≤_}
+use Prim.Native.Nat.{ℕ, suc, _+_, _*_, _<_, _≤_}
 use mathlib.Core.Path.{_≡_, refl, _∙_}
-use mathlib.Core.Bool.{Bool, true, false, cond, not, _&&_}
+use mathlib.Core.Bool.{Bool, true, false, cond, not, _&&_, Bool·beq}
 use mathlib.Core.List.{List, [], _∷_, _++_}
-use lib.ListN.{length, getD, length-append}
+use lib.ListN.{length, length-append}
 use native.Mathlib.Omega.{arith}
-use lib.Dec.{ltb, eqb, lit≤}
+use lib.Dec.{eqb, ltb, lit≤}
 use borrow.Author.Tests.{ltb-true}
 use Rattle.ir.specs.declared.«Type».{«Type» as IrType}
 use Rattle.ir.specs.declared.VarId.{VarId}
@@ -13,7 +13,7 @@ use Rattle.ir.specs.declared.Operand.{Operand as IrOp}
 use Rattle.ir.specs.declared.UnaryOp.{UnaryOp as IrUnary}
 use Rattle.ir.specs.declared.Dest.{Dest}
 use Rattle.ir.specs.declared.Instr.{Instr}
-use Rattle.ir.specs.Types.{isFloat}
+use Rattle.ir.specs.Types.{ok, _>>=_, isFloat}
 use Rattle.ir.specs.Function.{BinaryOp}
 use Rattle.x86.specs.declared.register.Register.{Register}
 use Rattle.x86.specs.declared.enums.Size.{Size}
@@ -23,14 +23,16 @@ use Rattle.x86.specs.declared.enums.ConditionCode.{ConditionCode}
 use Rattle.x86.specs.declared.enums.CtrlOp.{CtrlOp}
 use Rattle.x86.specs.declared.enums.ExtendOp.{ExtendOp}
 use Rattle.x86.specs.declared.enums.Instruction.{Instruction}
-use Rattle.x86.specs.Registers.{xmm, RAX}
+use Rattle.x86.specs.Registers.{xmm, RAX, RSP}
 use Rattle.x86.specs.Records.{conditionCode}
 use Rattle.codegen.specs.Context.{Context}
 use Rattle.codegen.specs.Utils.{varSize, convertVar, convertOperand, loadOperand}
-use Rattle.codegen.specs.Instructions.{move, Source, source, widened, castOperand, paramRegs, paramFregs, floating, loadArgument, loadArguments, storeResult, generateCall}
+use Rattle.codegen.specs.Instructions.{move, Source, source, widened, castOperand, floating, isSpent, wordsTaken, floatsTaken, excess, registerOf, loadArguments, pushArguments, callArea, moveStack, storeResult, generateCall}
 use Rattle.codegen.specs.Arithmetic.{dividing, parity, ordered, unaryRecords}
+use Rattle.codegen.specs.Frame.{registersOf, storeOf, storeParams, copyParams, isFloatParam, funcPrologue}
 use Rattle.codegen.specs.Generation.{generateInstr, isRet, endsInRet}
-use Rattle.codegen.proofs.Results.{Yields, yields, any, bind, weaken, choose, guard, implies, values}
+use Rattle.codegen.specs.Bounds.{mostRecords, mostInPrologue}
+use Rattle.codegen.proofs.Results.{Yields, yields, any, bind, weaken, choose, implies, values}
 use Rattle.codegen.proofs.Lowers.{copies, zero-extends, Converts, conversion, extension, Works, quotient, remainder, product, shifted, Sides, words, floats, swapped, Operates, one-load, two-loads, compares, Lowers, copied, unary, binary, cast-copied, cast-short, cast, zeroed, called, labelled, jump, branch, returned, comment, lowers}
 
 -- ---- lists
@@ -121,19 +123,38 @@ cast-part {s = s} h (extension {z} {var} p q) = extended-part s var z (eqb (s .s
 
 -- ---- calls
 
-argument-few : (ctx : Context) (regs : List Register) (k : ℕ) (x : IrOp) → Yields (loadArgument ctx regs k x) (λ i. k < length regs)
-unfolding loadArgument
-argument-few ctx regs k x =
-    guard 8 (ltb k (length regs)) (λ e. weaken (any (loadOperand ctx (getD regs k RAX) x Size.NoSize)) (λ i p. ltb-true k (length regs) e))
+-- a record an argument in a register, and the number of floats
+loads-few : (ctx : Context) (i f : ℕ) (xs : List IrOp) → Yields (loadArguments ctx i f xs) (λ is. length is + length (excess floating i f xs) ≡ suc (length xs))
+unfolding loadArguments excess
+loads-few ctx i f [] = yields refl
+loads-few ctx i f (x ∷ xs) = go (isSpent (floating x) i f) (loads-few ctx i f xs) (loads-few ctx (wordsTaken (floating x) i) (floatsTaken (floating x) f) xs)
+  where
+    i′ : ℕ
+    i′ = wordsTaken (floating x) i
 
--- at most six arguments that are no floats and eight that are; then comes the number of floats
-arguments-few : (ctx : Context) (i f : ℕ) (xs : List IrOp) → i ≤ 6 → f ≤ 8 → Yields (loadArguments ctx i f xs) (λ is. length is + i + f ≤ 15)
-unfolding loadArguments
-arguments-few ctx i f [] h k = yields (omega arith)
-arguments-few ctx i f (x ∷ xs) h k =
-    choose (floating x)
-    (λ e. bind (argument-few ctx paramFregs f x) (λ load p. bind (arguments-few ctx i (suc f) xs h p) (λ rest q. yields (omega arith))))
-    (λ e. bind (argument-few ctx paramRegs i x) (λ load p. bind (arguments-few ctx (suc i) f xs p k) (λ rest q. yields (omega arith))))
+    f′ : ℕ
+    f′ = floatsTaken (floating x) f
+
+    go : (b : Bool) → Yields (loadArguments ctx i f xs) (λ is. length is + length (excess floating i f xs) ≡ suc (length xs))
+        → Yields (loadArguments ctx i′ f′ xs) (λ is. length is + length (excess floating i′ f′ xs) ≡ suc (length xs))
+        → Yields (cond b (loadArguments ctx i f xs) (loadOperand ctx (registerOf (floating x) i f) x Size.NoSize >>= λ load. loadArguments ctx i′ f′ xs >>= λ rest. ok (load ∷ rest)))
+        (λ is. length is + length (cond b (x ∷ excess floating i f xs) (excess floating i′ f′ xs)) ≡ suc (suc (length xs)))
+    go true u w = weaken u (λ is p. omega arith)
+    go false u w = bind (any (loadOperand ctx (registerOf (floating x) i f) x Size.NoSize)) (λ load p. bind w (λ rest q. yields (omega arith)))
+
+-- two records an argument in excess
+pushes-few : (ctx : Context) (j : ℕ) (xs : List IrOp) → Yields (pushArguments ctx j xs) (λ is. length is ≡ 2 * length xs)
+unfolding pushArguments
+pushes-few ctx j [] = yields refl
+pushes-few ctx j (x ∷ xs) =
+    bind (any (loadOperand ctx RAX x Size.NoSize)) (λ load p. bind (pushes-few ctx (suc j) xs) (λ rest q. yields (omega arith)))
+
+stack-few : (op : BinOp) (k : ℕ) → length (moveStack op k) ≤ 1
+stack-few op k = go (eqb k 0)
+  where
+    go : (b : Bool) → length (cond b [] (Instruction.Binary op (Operand.Reg RSP) (Operand.Imm (callArea k)) Size.NoSize ∷ [])) ≤ 1
+    go true = lit≤ tt
+    go false = lit≤ tt
 
 result-part : (ctx : Context) (dest : Dest) → Yields (storeResult ctx dest) (Part 1 false)
 unfolding storeResult endsInRet
@@ -146,22 +167,36 @@ result-part ctx (Dest.Var v) =
     go var size true = record { few = lit≤ tt; last = refl }
     go var size false = record { few = lit≤ tt; last = refl }
 
-call-part : (ctx : Context) (dest : Dest) (symbol : ℕ) (args : List IrOp) → Yields (generateCall ctx dest symbol args) (Part 17 false)
+call-part : (ctx : Context) (dest : Dest) (symbol : ℕ) (args : List IrOp) → Yields (generateCall ctx dest symbol args) (Part (mostRecords (length args)) false)
 unfolding generateCall endsInRet
 call-part ctx dest symbol args =
-    bind (arguments-few ctx 0 0 args (lit≤ tt) (lit≤ tt)) (λ loads p.
-    bind (result-part ctx dest) (λ store q. yields (behind loads store p q)))
+    bind (pushes-few ctx 0 (excess floating 0 0 args)) (λ pushes o.
+    bind (loads-few ctx 0 0 args) (λ loads p.
+    bind (result-part ctx dest) (λ store q. yields (behind pushes loads store o p q))))
   where
     call : Instruction
     call = Instruction.Ctrl CtrlOp.Call (Operand.Sym symbol)
 
-    last-of : (store : List Instruction) → endsInRet store ≡ false → endsInRet (call ∷ store) ≡ false
-    last-of [] e = refl
-    last-of (i ∷ is) e = e
+    k : ℕ
+    k = length (excess floating 0 0 args)
 
-    behind : (loads store : List Instruction) → length loads + 0 + 0 ≤ 15 → Part 1 false store → Part 17 false (loads ++ call ∷ store)
-    behind loads store p q =
-        record { few = rw length-append (omega (arith, q .few)); last = ends-last loads call store ∙ last-of store (q .last) }
+    last-store : (i : Instruction) (store : List Instruction) → isRet i ≡ false → endsInRet store ≡ false → endsInRet (i ∷ store) ≡ false
+    last-store i [] h e = h
+    last-store i (j ∷ is) h e = e
+
+    raised : (b : Bool) (store : List Instruction) → endsInRet store ≡ false
+        → endsInRet (call ∷ (cond b [] (Instruction.Binary BinOp.Add (Operand.Reg RSP) (Operand.Imm (callArea k)) Size.NoSize ∷ []) ++ store)) ≡ false
+    raised true store e = last-store call store refl e
+    raised false store e = last-store _ store refl e
+
+    behind : (pushes loads store : List Instruction) → length pushes ≡ 2 * k → length loads + k ≡ suc (length args) → Part 1 false store
+        → Part (mostRecords (length args)) false (moveStack BinOp.Sub k ++ (pushes ++ (loads ++ call ∷ (moveStack BinOp.Add k ++ store))))
+    behind pushes loads store o p q =
+        record {
+          few = rw (length-append, length-append, length-append, length-append) (omega (arith, o, p, q .few, stack-few BinOp.Sub k, stack-few BinOp.Add k));
+          last = ends-some (moveStack BinOp.Sub k) _ (rw (length-append, length-append) (omega arith))
+              ∙ ends-some pushes _ (rw length-append (omega arith)) ∙ ends-last loads call _ ∙ raised (eqb k 0) store (q .last);
+        }
 
 -- ---- operations of two sides
 
@@ -202,14 +237,14 @@ unary-few IrUnary.Neg false size = lit≤ tt
 unary-few IrUnary.BitNot float size = lit≤ tt
 unary-few IrUnary.Not float size = lit≤ tt
 
-lowers-part : {ctx : Context} {labels : ℕ} {ret : IrType} {i : Instr} {args : List IrOp} {is : List Instruction} → Lowers ctx labels ret i args is → Part 17 (isReturn i) is
+lowers-part : {ctx : Context} {labels : ℕ} {ret : IrType} {i : Instr} {args : List IrOp} {is : List Instruction} → Lowers ctx labels ret i args is → Part (mostRecords (length args)) (isReturn i) is
 unfolding endsInRet
 lowers-part (copied (copies p q r)) = record { few = omega arith; last = refl }
-lowers-part (unary {d} {op} {z = z} p q r) = part 17 (_ ∷ unaryRecords op (isFloat (d .ty)) z) _ (omega (arith, unary-few op (isFloat (d .ty)) z)) refl
-lowers-part (binary h) = wider 17 (binary-part h) (omega arith)
+lowers-part (unary {d} {op} {z = z} p q r) = part _ (_ ∷ unaryRecords op (isFloat (d .ty)) z) _ (omega (arith, unary-few op (isFloat (d .ty)) z)) refl
+lowers-part (binary h) = wider _ (binary-part h) (omega arith)
 lowers-part (cast-copied p q e (copies r t u)) = record { few = omega arith; last = refl }
 lowers-part (cast-short e (zero-extends p q r)) = record { few = omega arith; last = refl }
-lowers-part {ctx} (cast {x = x} {k = k} {s = s} p q e r h) = wider 17 (cast-part (widened-brief (k .float) s (source-brief ctx x (k .size) .of s r)) h) (omega arith)
+lowers-part {ctx} (cast {x = x} {k = k} {s = s} p q e r h) = wider _ (cast-part (widened-brief (k .float) s (source-brief ctx x (k .size) .of s r)) h) (omega arith)
 lowers-part (zeroed p q) = record { few = omega arith; last = refl }
 lowers-part {ctx} (called {d} {f} {args = args} {b} e) = call-part ctx d f args .of b e
 lowers-part (labelled p) = record { few = omega arith; last = refl }
@@ -218,5 +253,46 @@ lowers-part (branch p q) = record { few = omega arith; last = refl }
 lowers-part (returned p) = record { few = omega arith; last = refl }
 lowers-part comment = record { few = omega arith; last = refl }
 
-pub instr-part : (ctx : Context) (labels : ℕ) (ret : IrType) (i : Instr) (args : List IrOp) → Yields (generateInstr ctx labels ret i args) (Part 17 (isReturn i))
+pub instr-part : (ctx : Context) (labels : ℕ) (ret : IrType) (i : Instr) (args : List IrOp) → Yields (generateInstr ctx labels ret i args) (Part (mostRecords (length args)) (isReturn i))
 instr-part ctx labels ret i args = values (implies (lowers ctx labels ret i args) (λ is h. lowers-part h))
+
+-- ---- the prologue
+
+-- the excess of a list is no longer than the list
+pub excess-few : {A : Type 0} (float : A → Bool) (i f : ℕ) (xs : List A) → length (excess float i f xs) ≤ length xs
+unfolding excess
+excess-few float i f [] = lit≤ tt
+excess-few {A} float i f (x ∷ xs) = go (isSpent (float x) i f) (excess-few float i f xs) (excess-few float (wordsTaken (float x) i) (floatsTaken (float x) f) xs)
+  where
+    go : (b : Bool) → length (excess float i f xs) ≤ length xs → length (excess float (wordsTaken (float x) i) (floatsTaken (float x) f) xs) ≤ length xs
+        → length (cond b (x ∷ excess float i f xs) (excess float (wordsTaken (float x) i) (floatsTaken (float x) f) xs)) ≤ suc (length xs)
+    go true h k = omega arith
+    go false h k = omega arith
+
+-- a record a register, from the register of rank k on
+stores-few : (ctx : Context) (float : Bool) (k : ℕ) (ps : List VarId) → k ≤ length (registersOf float)
+    → Yields (storeParams ctx float k ps) (λ is. length is + k ≤ length (registersOf float))
+unfolding storeParams
+stores-few ctx float k [] h = yields (omega arith)
+stores-few ctx float k (p ∷ ps) h =
+    choose (Bool·beq (isFloat (p .ty)) float)
+    (λ e. choose (ltb k (length (registersOf float)))
+    (λ l. bind (any (convertVar ctx p)) (λ var a. bind (any (varSize p)) (λ size b.
+    bind (stores-few ctx float (suc k) ps (ltb-true k (length (registersOf float)) l)) (λ rest c. yields (omega arith)))))
+    (λ l. yields (omega arith)))
+    (λ e. stores-few ctx float k ps h)
+
+-- two records a parameter in excess
+copies-few : (ctx : Context) (j : ℕ) (ps : List VarId) → Yields (copyParams ctx j ps) (λ is. length is ≡ 2 * length ps)
+unfolding copyParams
+copies-few ctx j [] = yields refl
+copies-few ctx j (p ∷ ps) =
+    bind (any (varSize p)) (λ size a. bind (any (convertVar ctx p)) (λ var b. bind (copies-few ctx (suc j) ps) (λ rest c. yields (omega arith))))
+
+pub prologue-few : (ctx : Context) (bytes : ℕ) (ps : List VarId) → Yields (funcPrologue ctx bytes ps) (λ is. length is ≤ mostInPrologue (length ps))
+unfolding funcPrologue
+prologue-few ctx bytes ps =
+    bind (stores-few ctx false 0 ps (lit≤ tt)) (λ words a.
+    bind (stores-few ctx true 0 ps (lit≤ tt)) (λ floats b.
+    bind (copies-few ctx 0 (excess isFloatParam 0 0 ps)) (λ copies c.
+    yields (rw (length-append, length-append) (omega (arith, a, b, c, excess-few isFloatParam 0 0 ps))))))

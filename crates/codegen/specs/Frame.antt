@@ -13,10 +13,10 @@ use Rattle.x86.specs.declared.enums.Operand.{Operand}
 use Rattle.x86.specs.declared.enums.BinOp.{BinOp}
 use Rattle.x86.specs.declared.enums.StackOp.{StackOp}
 use Rattle.x86.specs.declared.enums.Instruction.{Instruction}
-use Rattle.x86.specs.Registers.{RAX, RSP, RBP}
+use Rattle.x86.specs.Registers.{RAX, RSP, RBP, rbpPlus}
 use Rattle.codegen.specs.Context.{Context}
-use Rattle.codegen.specs.Utils.{varSize, convertVar}
-use Rattle.codegen.specs.Instructions.{move, paramRegs, paramFregs}
+use Rattle.codegen.specs.Utils.{varSize, convertVar, loadFrom}
+use Rattle.codegen.specs.Instructions.{move, paramRegs, paramFregs, excess}
 
 -- ---- offsets
 
@@ -52,7 +52,7 @@ abbrev pub storeOf : Bool → BinOp
 storeOf true = BinOp.StoreF
 storeOf false = BinOp.Mov
 
--- the stores of the parameters that are floats, or of those that are not, the first of them of rank k; those beyond the registers are not looked at
+-- the stores of the parameters that are floats, or of those that are not, the first of them of rank k; those beyond the registers are in excess
 unfoldable pub storeParams : Context → Bool → ℕ → List VarId → Result (List Instruction)
 storeParams ctx float k [] = ok []
 storeParams ctx float k (p ∷ ps) =
@@ -63,10 +63,21 @@ storeParams ctx float k (p ∷ ps) =
     (ok []))
     (storeParams ctx float k ps)
 
--- `push rbp ; mov rbp, rsp ; sub rsp, frame`, then each parameter goes from its register into its slot
+-- the parameters in excess, the first of them of number j: each is copied from RBP plus 16 plus 8j through RAX into its slot (M-112)
+unfoldable pub copyParams : Context → ℕ → List VarId → Result (List Instruction)
+copyParams ctx j [] = ok []
+copyParams ctx j (p ∷ ps) =
+    varSize p >>= λ size. convertVar ctx p >>= λ var. copyParams ctx (suc j) ps >>= λ rest.
+    ok (loadFrom RAX (rbpPlus (16 + 8 * j)) size ∷ move var (Operand.Reg RAX) size ∷ rest)
+
+abbrev pub isFloatParam : VarId → Bool
+isFloatParam p = isFloat (p .ty)
+
+-- `push rbp ; mov rbp, rsp ; sub rsp, frame`, then each parameter goes from its register, or from the caller's stack, into its slot
 unfoldable pub funcPrologue : Context → ℕ → List VarId → Result (List Instruction)
 funcPrologue ctx bytes params = do
   words ← storeParams ctx false 0 params
   floats ← storeParams ctx true 0 params
+  copies ← copyParams ctx 0 (excess isFloatParam 0 0 params)
   ok (Instruction.Stack StackOp.Push (Operand.Reg RBP) Size.NoSize ∷ move (Operand.Reg RBP) (Operand.Reg RSP) Size.NoSize
-      ∷ Instruction.Binary BinOp.Sub (Operand.Reg RSP) (Operand.Imm bytes) Size.NoSize ∷ words ++ floats)
+      ∷ Instruction.Binary BinOp.Sub (Operand.Reg RSP) (Operand.Imm bytes) Size.NoSize ∷ words ++ (floats ++ copies))

@@ -110,7 +110,7 @@ abbrev pub checked : {A : Type 0} → Checked → (Unit {0} → Outcome A) → O
 checked (Checked.Behind c) rest = rest tt
 checked (Checked.Refused n cell) rest = refused n cell
 
--- refusals 1 to 8
+-- refusals 1 to 7; 8, registers spent, no longer occurs (M-112)
 unfoldable pub compiled : List ℕ → List ℕ → Outcome (List Instruction)
 compiled tables sheet = checked (tablesCheck tables) (λ u. checked (sheetCheck sheet) (λ v. generate (tablesOf tables) (functionOf sheet)))
 

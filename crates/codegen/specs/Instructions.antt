@@ -1,14 +1,14 @@
 -- Believed: Krc's codegen/instructions.rs, in the Rust's order of evaluation.
-use Prim.Native.Nat.{ℕ, suc, _+_}
+use Prim.Native.Nat.{ℕ, suc, _+_, _*_, _/_}
 use mathlib.Core.List.{List, [], _∷_, _++_}
 use mathlib.Core.Bool.{Bool, true, false, cond, not, _&&_, _||_, Bool·beq}
 use lib.ListN.{length, getD}
-use lib.Dec.{eqb, leb, ltb}
+use lib.Dec.{eqb, leb}
 use Rattle.ir.specs.declared.«Type».{«Type» as IrType}
 use Rattle.ir.specs.declared.VarId.{VarId}
 use Rattle.ir.specs.declared.Operand.{Operand as IrOp}
 use Rattle.ir.specs.declared.Dest.{Dest}
-use Rattle.ir.specs.Types.{Result, ok, refused, _>>=_, isScalar, typeSize, isFloat, isUnsigned}
+use Rattle.ir.specs.Types.{Result, ok, _>>=_, isScalar, typeSize, isFloat, isUnsigned}
 use Rattle.x86.specs.declared.register.Register.{Register}
 use Rattle.x86.specs.declared.enums.Size.{Size}
 use Rattle.x86.specs.declared.enums.Operand.{Operand}
@@ -21,7 +21,7 @@ use Rattle.x86.specs.declared.enums.Prefix.{Prefix}
 use Rattle.x86.specs.declared.enums.ExtendOp.{ExtendOp}
 use Rattle.x86.specs.declared.enums.ConvOp.{ConvOp}
 use Rattle.x86.specs.declared.enums.Instruction.{Instruction}
-use Rattle.x86.specs.Registers.{xmm, RAX, RCX, RDX, RSP, RBP, RSI, RDI, R8, R9}
+use Rattle.x86.specs.Registers.{xmm, RAX, RCX, RDX, RSP, RBP, RSI, RDI, R8, R9, rspPlus}
 use Rattle.codegen.specs.Context.{Context, floatShort, labelAt}
 use Rattle.codegen.specs.Utils.{sizeFrom, varSize, convertVar, convertOperand, loadOperand}
 
@@ -177,17 +177,54 @@ floating (IrOp.Address v) = false
 floating (IrOp.DataAddress k) = false
 floating IrOp.Null = false
 
--- `float_parameter` and `normal_param`: the argument of rank k into the register of its rank; refusal 8 where there is none
-unfoldable pub loadArgument : Context → List Register → ℕ → IrOp → Result Instruction
-loadArgument ctx regs k op = cond (ltb k (length regs)) (loadOperand ctx (getD regs k RAX) op Size.NoSize) (refused 8)
+-- whether an argument or a parameter finds the registers of its kind taken, where i general and f XMM registers are
+abbrev pub isSpent : Bool → ℕ → ℕ → Bool
+isSpent true i f = leb 8 f
+isSpent false i f = leb 6 i
 
--- the arguments in order, where i general and f XMM registers are taken; then the number of floats in RAX
+-- how many general registers, and how many XMM registers, are taken behind one that has found its own
+abbrev pub wordsTaken : Bool → ℕ → ℕ
+wordsTaken true i = i
+wordsTaken false i = suc i
+
+abbrev pub floatsTaken : Bool → ℕ → ℕ
+floatsTaken true f = suc f
+floatsTaken false f = f
+
+-- the excess of a list (M-112): those that find the registers of their kind taken, in order, where i general and f XMM registers are
+unfoldable pub excess : {A : Type 0} → (A → Bool) → ℕ → ℕ → List A → List A
+excess float i f [] = []
+excess float i f (x ∷ xs) =
+    cond (isSpent (float x) i f) (x ∷ excess float i f xs) (excess float (wordsTaken (float x) i) (floatsTaken (float x) f) xs)
+
+-- the register of the next argument of a kind
+abbrev pub registerOf : Bool → ℕ → ℕ → Register
+registerOf true i f = getD paramFregs f RAX
+registerOf false i f = getD paramRegs i RAX
+
+-- `float_parameter` and `normal_param`: the arguments that find a register, in order, where i general and f XMM registers are taken; then the
+-- number of floats in registers, in RAX
 unfoldable pub loadArguments : Context → ℕ → ℕ → List IrOp → Result (List Instruction)
 loadArguments ctx i f [] = ok (move (Operand.Reg RAX) (Operand.Imm f) Size.NoSize ∷ [])
 loadArguments ctx i f (x ∷ xs) =
-    cond (floating x)
-    (loadArgument ctx paramFregs f x >>= λ load. loadArguments ctx i (suc f) xs >>= λ rest. ok (load ∷ rest))
-    (loadArgument ctx paramRegs i x >>= λ load. loadArguments ctx (suc i) f xs >>= λ rest. ok (load ∷ rest))
+    cond (isSpent (floating x) i f) (loadArguments ctx i f xs)
+    (loadOperand ctx (registerOf (floating x) i f) x Size.NoSize >>= λ load.
+    loadArguments ctx (wordsTaken (floating x) i) (floatsTaken (floating x) f) xs >>= λ rest. ok (load ∷ rest))
+
+-- the arguments in excess, the first of them of number j: each goes through RAX to RSP plus 8j
+unfoldable pub pushArguments : Context → ℕ → List IrOp → Result (List Instruction)
+pushArguments ctx j [] = ok []
+pushArguments ctx j (x ∷ xs) =
+    loadOperand ctx RAX x Size.NoSize >>= λ load. pushArguments ctx (suc j) xs >>= λ rest.
+    ok (load ∷ move (rspPlus (8 * j)) (Operand.Reg RAX) Size.U64 ∷ rest)
+
+-- the least multiple of 16 not below 8k
+abbrev pub callArea : ℕ → ℕ
+callArea k = (8 * k + 15) / 16 * 16
+
+-- RSP is moved by the area of k arguments in excess, if there are any
+abbrev pub moveStack : BinOp → ℕ → List Instruction
+moveStack op k = cond (eqb k 0) [] (Instruction.Binary op (Operand.Reg RSP) (Operand.Imm (callArea k)) Size.NoSize ∷ [])
 
 -- the result is stored from XMM0 or RAX, if it is kept
 unfoldable pub storeResult : Context → Dest → Result (List Instruction)
@@ -197,11 +234,14 @@ storeResult ctx (Dest.Var v) = do
   size ← varSize v
   ok (cond (isFloat (v .ty)) (Instruction.Binary BinOp.StoreF var (Operand.Reg (xmm 0)) size) (move var (Operand.Reg RAX) size) ∷ [])
 
+-- RSP is lowered, the arguments in excess are put in its area, the others into registers; behind the Call RSP is raised again
 unfoldable pub generateCall : Context → Dest → ℕ → List IrOp → Result (List Instruction)
 generateCall ctx dest symbol args = do
+  pushes ← pushArguments ctx 0 (excess floating 0 0 args)
   loads ← loadArguments ctx 0 0 args
   store ← storeResult ctx dest
-  ok (loads ++ Instruction.Ctrl CtrlOp.Call (Operand.Sym symbol) ∷ store)
+  ok (moveStack BinOp.Sub (length (excess floating 0 0 args)) ++ (pushes ++ (loads ++ Instruction.Ctrl CtrlOp.Call (Operand.Sym symbol)
+      ∷ (moveStack BinOp.Add (length (excess floating 0 0 args)) ++ store))))
 
 -- ---- jumps
 

@@ -4,3 +4,4 @@ pub mod Instructions
 pub mod Arithmetic
 pub mod Frame
 pub mod Generation
+pub mod Bounds

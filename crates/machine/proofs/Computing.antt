@@ -2,10 +2,13 @@
 use Prim.Native.Nat.{ℕ, _≤_}
 use mathlib.Core.Path.{_≡_, refl, sym, _∙_}
 use mathlib.Core.Bool.{true, false, false≢true}
+use mathlib.Core.List.{List}
 use native.Mathlib.Omega.{arith}
+use Rattle.ir.specs.declared.Operand.{Operand as IrOp}
 use Rattle.ir.specs.declared.Instr.{Instr}
 use Rattle.ir.specs.Function.{Function, Tables}
 use Rattle.x86.specs.declared.enums.Operand.{Operand}
+use Rattle.x86.specs.declared.enums.BinOp.{BinOp}
 use Rattle.x86.specs.declared.enums.CtrlOp.{CtrlOp}
 use Rattle.x86.specs.declared.enums.Instruction.{Instruction}
 use Rattle.codegen.specs.Instructions.{funcEpilogue}
@@ -18,10 +21,11 @@ use Rattle.machine.proofs.Frame.{frame-is}
 use Rattle.machine.proofs.Slots.{frame-le}
 use Rattle.machine.proofs.Accepted.{Accepted, code}
 use Rattle.machine.proofs.Sound.{tame, tameCtrl, isCall, isCallOp}
-use Rattle.machine.proofs.Generated.{Own}
+use Rattle.machine.proofs.Generated.{Own, moving}
 use Rattle.machine.proofs.Prologue.{entering, frame-known}
+use Rattle.machine.proofs.Flow.{add-known}
 use Rattle.machine.proofs.Known.{epilogue-known}
-use Rattle.machine.proofs.Every.{code-all}
+use Rattle.machine.proofs.Every.{SmallLines, code-all}
 
 abbrev pub Computing : Instruction → Type 0
 Computing i = known i ≡ false → computes i ≡ true
@@ -52,25 +56,31 @@ tame-computes (Instruction.Shift op d x z) h u = λ k. h
 tame-computes (Instruction.Stack op x z) h u = absurd (false≢true h)
 tame-computes (Instruction.Unary op d z) h u = λ k. h
 
--- a Call of a symbol
-own : (i : Instr) → Own Computing i
+-- a Call of a symbol, and RSP moved by a Call's area
+own : (i : Instr) (args : List IrOp) → Own (Unit {0}) Computing i args
 unfolding known
-own (Instr.Copy d x) = tt
-own (Instr.Unary d op x) = tt
-own (Instr.Binary d op x y) = tt
-own (Instr.Cast d x) = tt
-own (Instr.Zero d) = tt
-own (Instr.Call d f count) = had (Instruction.Ctrl CtrlOp.Call (Operand.Sym f)) refl
-own (Instr.Label l) = λ k. refl
-own (Instr.Jump l) = tt
-own (Instr.JumpIfNot x l) = tt
-own (Instr.Return x) = tt
-own Instr.Comment = tt
+own (Instr.Copy d x) args = tt
+own (Instr.Unary d op x) args = tt
+own (Instr.Binary d op x y) args = tt
+own (Instr.Cast d x) args = tt
+own (Instr.Zero d) args = tt
+own (Instr.Call d f count) args =
+    record {
+      calls = had (Instruction.Ctrl CtrlOp.Call (Operand.Sym f)) refl;
+      lowers = λ n q. let z : n ≤ 1024 = q tt in had (moving BinOp.Sub n) (frame-known n (omega arith));
+      raises = λ n q. had (moving BinOp.Add n) (add-known n (q tt));
+      puts = λ j k q h. refl;
+    }
+own (Instr.Label l) args = λ k. refl
+own (Instr.Jump l) args = tt
+own (Instr.JumpIfNot x l) args = tt
+own (Instr.Return x) args = tt
+own Instr.Comment args = tt
 
-pub code-computing : (tables : Tables) (F : Function) → depth (F .vars) ≤ 1048576 → Accepted tables F → All Computing (code tables F)
+pub code-computing : (tables : Tables) (F : Function) → depth (F .vars) ≤ 1048576 → SmallLines F → Accepted tables F → All Computing (code tables F)
 unfolding known
-code-computing tables F small a =
+code-computing tables F small lines a =
     let n : ℕ = frame (F .vars) in
-    code-all tables F a ⊥ (λ q. absurd q) Computing (λ N i s. tame-computes i (s .kept) (s .uncalled)) (all-map Known Computing funcEpilogue had epilogue-known)
-    (λ k l r d. own (l .instr))
+    code-all tables F a (Unit {0}) (λ q. lines) Computing (λ N i s. tame-computes i (s .kept) (s .uncalled)) (all-map Known Computing funcEpilogue had epilogue-known)
+    (λ k l r d. own (l .instr) (l .args)) (record { by-mov = λ j z h e k. refl; by-movzx = λ j h e k. refl })
     (all-map Known Computing (entering n) had (refl, (refl, (frame-known n (omega (arith, frame-is (F .vars), frame-le (F .vars) small)), tt))))

@@ -1,5 +1,5 @@
 -- The records that the lowering makes of each instruction, floats and calls included: all are sound, but for labels, calls and epilogues.
-use Prim.Native.Nat.{ℕ, suc, _*_, _<_, _≤_, min, max}
+use Prim.Native.Nat.{ℕ, suc, _+_, _*_, _<_, _≤_, min, max}
 use mathlib.Core.Path.{_≡_, refl, sym, ap, _∙_, subst}
 use mathlib.Core.Logic.{_⊎_, inl, inr}
 use mathlib.Core.Bool.{Bool, true, false, cond, not, _&&_, _||_, Bool·beq, false≢true}
@@ -8,14 +8,14 @@ use lib.Dec.{eqb, ltb, leb, lit<, lit≤}
 use lib.ListN.{length, getD}
 use native.Mathlib.Nat.{mul-le-mul, min-le-right}
 use native.Mathlib.Omega.{arith}
-use borrow.Author.Tests.{ltb-true, leb-true, eqb-true, eqb-false}
+use borrow.Author.Tests.{ltb-true, leb-true, leb-false, eqb-true, eqb-false}
 use Rattle.ir.specs.declared.«Type».{«Type» as IrType}
 use Rattle.ir.specs.declared.VarId.{VarId}
 use Rattle.ir.specs.declared.Operand.{Operand as IrOp}
 use Rattle.ir.specs.declared.UnaryOp.{UnaryOp as IrUnary}
 use Rattle.ir.specs.declared.Dest.{Dest}
 use Rattle.ir.specs.declared.Instr.{Instr}
-use Rattle.ir.specs.Types.{ok, bytes, typeSize, elementWidth, elementSize, isScalar, isFloat, operandSize, elfSize}
+use Rattle.ir.specs.Types.{ok, _>>=_, bytes, typeSize, elementWidth, elementSize, isScalar, isFloat, operandSize, elfSize}
 use Rattle.ir.specs.Function.{Tables, BinaryOp}
 use Rattle.x86.specs.declared.register.Register.{Register}
 use Rattle.x86.specs.declared.enums.Size.{Size}
@@ -30,12 +30,12 @@ use Rattle.x86.specs.declared.enums.ConditionCode.{ConditionCode}
 use Rattle.x86.specs.declared.enums.Prefix.{Prefix}
 use Rattle.x86.specs.declared.enums.StringOp.{StringOp}
 use Rattle.x86.specs.declared.enums.Instruction.{Instruction}
-use Rattle.x86.specs.Registers.{number, RAX, RCX, RDX, RDI, xmm, rbpPlus, ripString, ripFloat}
+use Rattle.x86.specs.Registers.{number, isXmm, RAX, RCX, RDX, RSP, RDI, xmm, rbpPlus, rspPlus, ripString, ripFloat}
 use Rattle.x86.specs.Records.{conditionCode}
 use Rattle.x86.specs.Decode.{FitsRegister}
 use Rattle.codegen.specs.Context.{Context, stringAt, floatAt, floatShort, labelAt}
-use Rattle.codegen.specs.Utils.{sizeFrom, varSize, convertVar, convertOperand, sizeOr, ownSize, loadFrom, loadString, loadValue, loadOperand}
-use Rattle.codegen.specs.Instructions.{move, Kind, Source, source, operandKind, paramRegs, paramFregs, funcEpilogue, floating, castOperand, widened, isUnsignedShort, isCopy, generateZero, loadArgument, loadArguments, storeResult, generateCall, generateLabel}
+use Rattle.codegen.specs.Utils.{sizeFrom, varSize, convertVar, convertOperand, sizeOr, ownSize, isOneByte, isConstant, loadFrom, loadString, loadValue, loadOperand}
+use Rattle.codegen.specs.Instructions.{move, Kind, Source, source, operandKind, paramRegs, paramFregs, funcEpilogue, floating, castOperand, widened, isUnsignedShort, isCopy, generateZero, isSpent, wordsTaken, floatsTaken, excess, registerOf, loadArguments, pushArguments, callArea, moveStack, storeResult, generateCall, generateLabel}
 use Rattle.codegen.specs.Arithmetic.{dividing, parity, ordered, signBit, unaryRecords}
 use Rattle.codegen.specs.Frame.{storeOf}
 use Rattle.codegen.specs.Generation.{generateInstr}
@@ -48,10 +48,11 @@ use Rattle.machine.specs.Calls.{Taking, Naming, convertedBytes, passedBy
 use Rattle.ir.proofs.Rest.{few-bytes}
 use Rattle.machine.proofs.Tests.{both, every-at, each-or}
 use Rattle.machine.proofs.Frame.{contextWith, At, var-at}
+use Rattle.codegen.proofs.Shapes.{excess-few}
 use Rattle.codegen.proofs.Results.{Yields, yields, refuses, bind, weaken, choose, guard, implies, values}
 use Rattle.codegen.proofs.Lowers.{Copies, copies, ZeroExtends, zero-extends, working, Conversion, between-floats, to-float, from-float, Converts, conversion, extension, calculations, comparisons, Works, quotient, remainder, product, shifted, Sides, words, floats, swapped, Operates, one-load, two-loads, compares, Lowers, copied, unary, binary, cast-copied, cast-short, cast, zeroed, called, labelled, jump, branch, returned, comment, lowers}
 use Rattle.machine.proofs.Run.{All, all-append, all-map}
-use Rattle.machine.proofs.Sound.{Sound, SoundOperand, Given, Usable, tame, isCall, either, slot-sound, into-register, into-slot, extends, load-sound}
+use Rattle.machine.proofs.Sound.{Sound, SoundOperand, Straight, Given, Usable, tame, isJump, isCall, either, slot-sound, into-register, into-slot, extends, load-sound}
 
 -- ---- numbers of an instruction that a record takes over: below 2 ^ 64, as those of a sheet are
 
@@ -74,7 +75,7 @@ SmallInstr (Instr.Unary d op x) args = SmallOperand x
 SmallInstr (Instr.Binary d op x y) args = SmallOperand x × SmallOperand y
 SmallInstr (Instr.Cast d x) args = SmallOperand x
 SmallInstr (Instr.Zero d) args = Unit {0}
-SmallInstr (Instr.Call d f count) args = (f < W) × SmallOperands args
+SmallInstr (Instr.Call d f count) args = (f < W) × SmallOperands args × (length args ≤ 64)
 SmallInstr (Instr.Label l) args = l < W
 SmallInstr (Instr.Jump l) args = l < W
 SmallInstr (Instr.JumpIfNot x l) args = SmallOperand x × (l < W)
@@ -103,13 +104,31 @@ Loaded tables vars r (IrOp.Address v) i = ⊥
 Loaded tables vars r (IrOp.DataAddress k) i = i ≡ Instruction.Lea (ripString k) r Size.NoSize
 Loaded tables vars r IrOp.Null i = i ≡ loadFrom r (Operand.Imm 0) Size.NoSize
 
--- the loads of arguments, where i general and f XMM registers are taken
+-- the loads of arguments, where i general and f XMM registers are taken; those that find none are passed over
 pub data Loading (tables : Tables) (vars : List IrType) : ℕ → ℕ → List IrOp → List Instruction → Type 0 where
   counted : (i f : ℕ) → Loading tables vars i f [] (move (Operand.Reg RAX) (Operand.Imm f) Size.NoSize ∷ [])
   a-word : {i f : ℕ} {x : IrOp} {xs : List IrOp} {load : Instruction} {rest : List Instruction} → floating x ≡ false → i < 6
       → Loaded tables vars (getD paramRegs i RAX) x load → Loading tables vars (suc i) f xs rest → Loading tables vars i f (x ∷ xs) (load ∷ rest)
   a-float : {i f : ℕ} {x : IrOp} {xs : List IrOp} {load : Instruction} {rest : List Instruction} → floating x ≡ true → f < 8
       → Loaded tables vars (getD paramFregs f RAX) x load → Loading tables vars i (suc f) xs rest → Loading tables vars i f (x ∷ xs) (load ∷ rest)
+  late-word : {i f : ℕ} {x : IrOp} {xs : List IrOp} {l : List Instruction} → floating x ≡ false → 6 ≤ i → Loading tables vars i f xs l
+      → Loading tables vars i f (x ∷ xs) l
+  late-float : {i f : ℕ} {x : IrOp} {xs : List IrOp} {l : List Instruction} → floating x ≡ true → 8 ≤ f → Loading tables vars i f xs l
+      → Loading tables vars i f (x ∷ xs) l
+
+-- the store of number j of the arguments in excess
+abbrev pub putting : ℕ → Instruction
+putting j = move (rspPlus (8 * j)) (Operand.Reg RAX) Size.U64
+
+-- the arguments in excess, from number j on, go to the stack
+pub data Pushing (tables : Tables) (vars : List IrType) : ℕ → List IrOp → List Instruction → Type 0 where
+  none : (j : ℕ) → Pushing tables vars j [] []
+  push : {j : ℕ} {x : IrOp} {xs : List IrOp} {load : Instruction} {rest : List Instruction} → Loaded tables vars RAX x load → Pushing tables vars (suc j) xs rest
+      → Pushing tables vars j (x ∷ xs) (load ∷ putting j ∷ rest)
+
+-- how many arguments are in excess
+abbrev pub spare : List IrOp → ℕ
+spare args = length (excess floating 0 0 args)
 
 -- what holds of an operand that is a variable
 abbrev pub OfVar : (VarId → Type 0) → IrOp → Type 0
@@ -144,9 +163,11 @@ GivenArguments N (x ∷ xs) = GivenArgument N x × GivenArguments N xs
 
 -- a Call's block
 pub record Calling (tables : Tables) (vars : List IrType) (N : Naming) (Q : Type 0) (f : ℕ) (args : List IrOp) (b : List Instruction) : Type 0 where
+  pub pushes : List Instruction
   pub loads : List Instruction
   pub store : List Instruction
-  pub is : b ≡ loads ++ Instruction.Ctrl CtrlOp.Call (Operand.Sym f) ∷ store
+  pub is : b ≡ moveStack BinOp.Sub (spare args) ++ (pushes ++ (loads ++ Instruction.Ctrl CtrlOp.Call (Operand.Sym f) ∷ (moveStack BinOp.Add (spare args) ++ store)))
+  pub pushing : Pushing tables vars 0 (excess floating 0 0 args) pushes
   pub loading : Loading tables vars 0 0 args loads
   pub given : GivenArguments (N false) args
   pub after : All (Sound vars N Q) store
@@ -221,6 +242,79 @@ module _ (vars : List IrType) (N : Naming) (Q : Type 0) where
       (loaded-sound tables (getD paramRegs i RAX) x load (usable paramRegs i refl y) (g .0) (λ q. h q .0) t, loading-sound k (g .1) (λ q. h q .1) ls)
   loading-sound {tables} k g h (a-float {f = f} {x = x} {load = load} e y t ls) =
       (loaded-sound tables (getD paramFregs f RAX) x load (usable paramFregs f refl y) (g .0) (λ q. h q .0) t, loading-sound y (g .1) (λ q. h q .1) ls)
+  loading-sound k g h (late-word e y ls) = loading-sound k (g .1) (λ q. h q .1) ls
+  loading-sound k g h (late-float e y ls) = loading-sound k (g .1) (λ q. h q .1) ls
+
+  -- of the records that put arguments on the stack: the loads are sound
+  pub pushing-all : (P : Instruction → Type 0) → ((i : Instruction) → Sound vars N Q i → P i) → {tables : Tables} {j : ℕ} {xs : List IrOp} {l : List Instruction}
+      → ((k : ℕ) → k < j + length xs → P (putting k)) → GivenArguments (N false) xs → (Q → SmallOperands xs) → Pushing tables vars j xs l → All P l
+  pushing-all P of puts g h (none j) = tt
+  pushing-all P of {tables} puts g h (push {j} {x} {xs} {load} t ps) = (
+    of load (loaded-sound tables RAX x load (refl, lit< tt) (g .0) (λ q. h q .0) t),
+    (puts j (omega arith), pushing-all P of (λ k l. puts k (omega arith)) (g .1) (λ q. h q .1) ps),
+  )
+
+-- what holds of every argument holds of those in excess
+excess-all : (P : List IrOp → Type 0) → P [] → ((x : IrOp) (xs : List IrOp) → P (x ∷ xs) → P xs) → ((x : IrOp) (xs l : List IrOp) → P (x ∷ xs) → P l → P (x ∷ l))
+    → (i f : ℕ) (xs : List IrOp) → P xs → P (excess floating i f xs)
+unfolding excess
+excess-all P empty rest one i f [] h = empty
+excess-all P empty rest one i f (x ∷ xs) h =
+    go (isSpent (floating x) i f) _ _ (excess-all P empty rest one i f xs (rest x xs h))
+    (excess-all P empty rest one (wordsTaken (floating x) i) (floatsTaken (floating x) f) xs (rest x xs h))
+  where
+    go : (b : Bool) (l m : List IrOp) → P l → P m → P (cond b (x ∷ l) m)
+    go true l m p q = one x xs l h p
+    go false l m p q = q
+
+excess-small : (i f : ℕ) (xs : List IrOp) → SmallOperands xs → SmallOperands (excess floating i f xs)
+excess-small = excess-all SmallOperands tt (λ x xs h. h .1) (λ x xs l h g. (h .0, g))
+
+pub excess-given : (N : Taking) (i f : ℕ) (xs : List IrOp) → GivenArguments N xs → GivenArguments N (excess floating i f xs)
+excess-given N = excess-all (GivenArguments N) tt (λ x xs h. h .1) (λ x xs l h g. (h .0, g))
+
+-- ---- a Call's pushes and loads go straight on
+
+load-ahead : (r : Register) (x : Operand) (z : Size) → isJump (loadFrom r x z) ≡ false
+unfolding loadFrom
+load-ahead r x z = go (isXmm r) (isOneByte z) (isConstant x)
+  where
+    go : (a b c : Bool) → isJump (cond a (Instruction.Binary BinOp.LoadF (Operand.Reg r) x z) (cond b (cond c (Instruction.Binary BinOp.Mov (Operand.Reg r) x Size.U32)
+        (Instruction.Extend ExtendOp.Movzx r x Size.U8 Size.U64)) (Instruction.Binary BinOp.Mov (Operand.Reg r) x z))) ≡ false
+    go true b c = refl
+    go false true true = refl
+    go false true false = refl
+    go false false c = refl
+
+loaded-ahead : (tables : Tables) (vars : List IrType) (r : Register) (x : IrOp) (i : Instruction) → Loaded tables vars r x i → isJump i ≡ false
+loaded-ahead tables vars r (IrOp.Var v) i (k, e) = rw e (load-ahead r _ _)
+loaded-ahead tables vars r (IrOp.Int n short unsigned) i e = rw e (load-ahead r _ _)
+loaded-ahead tables vars r (IrOp.Float k) i e = rw e (load-ahead r _ _)
+loaded-ahead tables vars r (IrOp.Bool b) i e = rw e (load-ahead r _ _)
+loaded-ahead tables vars r (IrOp.Address v) i e = absurd e
+loaded-ahead tables vars r (IrOp.DataAddress k) i e = rw e
+loaded-ahead tables vars r IrOp.Null i e = rw e (load-ahead r _ _)
+
+module _ (tables : Tables) (vars : List IrType) (N : Naming) where
+  loaded-straight : (r : Register) (x : IrOp) (i : Instruction) → Usable r → GivenArgument (N false) x → Loaded tables vars r x i → Straight i
+  loaded-straight r x i u g t =
+      let s : Sound vars N ⊥ i = loaded-sound vars N ⊥ tables r x i u g (λ q. absurd q) t in
+      record { kept = s .kept; ahead = loaded-ahead tables vars r x i t; plain = s .plain }
+
+  pub pushing-straight : {j : ℕ} {xs : List IrOp} {l : List Instruction} → GivenArguments (N false) xs → Pushing tables vars j xs l → All Straight l
+  pushing-straight g (none j) = tt
+  pushing-straight g (push {x = x} {load = load} t ps) =
+      (loaded-straight RAX x load (refl, lit< tt) (g .0) t, (record { kept = refl; ahead = refl; plain = λ l. refl }, pushing-straight (g .1) ps))
+
+  pub loading-straight : {i f : ℕ} {xs : List IrOp} {l : List Instruction} → GivenArguments (N false) xs → Loading tables vars i f xs l → All Straight l
+  unfolding every
+  loading-straight g (counted i f) = (record { kept = refl; ahead = refl; plain = λ l. refl }, tt)
+  loading-straight g (a-word {i} {x = x} {load = load} e y t ls) =
+      (loaded-straight (getD paramRegs i RAX) x load (usable paramRegs i refl y) (g .0) t, loading-straight (g .1) ls)
+  loading-straight g (a-float {f = f} {x = x} {load = load} e y t ls) =
+      (loaded-straight (getD paramFregs f RAX) x load (usable paramFregs f refl y) (g .0) t, loading-straight (g .1) ls)
+  loading-straight g (late-word e y ls) = loading-straight (g .1) ls
+  loading-straight g (late-float e y ls) = loading-straight (g .1) ls
 
 -- ---- parts of the lowering
 
@@ -727,20 +821,25 @@ module _ (tables : Tables) (vars : List IrType) (N : Naming) (Q : Type 0) where
   loaded r IrOp.Null = yields refl
 
   arguments : (i f : ℕ) (xs : List IrOp) → Yields (loadArguments ctx i f xs) (Loading tables vars i f xs)
-  unfolding loadArguments loadArgument
+  unfolding loadArguments
   arguments i f [] = yields (counted i f)
-  arguments i f (x ∷ xs) = go (arguments i (suc f) xs) (arguments (suc i) f xs)
+  arguments i f (x ∷ xs) = go (floating x) refl (arguments i f xs) (arguments i (suc f) xs) (arguments (suc i) f xs)
     where
-      go : Yields (loadArguments ctx i (suc f) xs) (Loading tables vars i (suc f) xs) → Yields (loadArguments ctx (suc i) f xs) (Loading tables vars (suc i) f xs)
-          → Yields (loadArguments ctx i f (x ∷ xs)) (Loading tables vars i f (x ∷ xs))
-      go u w =
-          choose (floating x)
-          (λ e. bind {P = λ a. (f < 8) × Loaded tables vars (getD paramFregs f RAX) x a}
-          (guard 8 (ltb f 8) (λ h. weaken (loaded (getD paramFregs f RAX) x) (λ a g. (ltb-true f 8 h, g))))
-          (λ a g. bind u (λ l h. yields (a-float e (g .0) (g .1) h))))
-          (λ e. bind {P = λ a. (i < 6) × Loaded tables vars (getD paramRegs i RAX) x a}
-          (guard 8 (ltb i 6) (λ h. weaken (loaded (getD paramRegs i RAX) x) (λ a g. (ltb-true i 6 h, g))))
-          (λ a g. bind w (λ l h. yields (a-word e (g .0) (g .1) h))))
+      go : (b : Bool) → floating x ≡ b → Yields (loadArguments ctx i f xs) (Loading tables vars i f xs) → Yields (loadArguments ctx i (suc f) xs) (Loading tables vars i (suc f) xs)
+          → Yields (loadArguments ctx (suc i) f xs) (Loading tables vars (suc i) f xs)
+          → Yields (cond (isSpent b i f) (loadArguments ctx i f xs) (loadOperand ctx (registerOf b i f) x Size.NoSize >>= λ load.
+          loadArguments ctx (wordsTaken b i) (floatsTaken b f) xs >>= λ rest. ok (load ∷ rest))) (Loading tables vars i f (x ∷ xs))
+      go true e n u w =
+          choose (leb 8 f) (λ h. weaken n (λ l g. late-float e (leb-true 8 f h) g))
+          (λ h. bind (loaded (getD paramFregs f RAX) x) (λ a g. bind u (λ l q. yields (a-float e (leb-false 8 f h) g q))))
+      go false e n u w =
+          choose (leb 6 i) (λ h. weaken n (λ l g. late-word e (leb-true 6 i h) g))
+          (λ h. bind (loaded (getD paramRegs i RAX) x) (λ a g. bind w (λ l q. yields (a-word e (leb-false 6 i h) g q))))
+
+  pushing : (j : ℕ) (xs : List IrOp) → Yields (pushArguments ctx j xs) (Pushing tables vars j xs)
+  unfolding pushArguments
+  pushing j [] = yields (none j)
+  pushing j (x ∷ xs) = bind (loaded RAX x) (λ a g. bind (pushing (suc j) xs) (λ l h. yields (push g h)))
 
   abbrev GivenResult : Dest → Type 0
   GivenResult Dest.Nothing = Unit {0}
@@ -756,7 +855,8 @@ module _ (tables : Tables) (vars : List IrType) (N : Naming) (Q : Type 0) where
   call-made : (d : Dest) (f : ℕ) (xs : List IrOp) → GivenResult d → GivenArguments (N false) xs → Yields (generateCall ctx d f xs) (Calling tables vars N Q f xs)
   unfolding generateCall
   call-made d f xs e w =
-      bind (arguments 0 0 xs) (λ l h. bind (results d e) (λ s g. yields (record { loads = l; store = s; is = refl; loading = h; given = w; after = g })))
+      bind (pushing 0 (excess floating 0 0 xs)) (λ p q. bind (arguments 0 0 xs) (λ l h. bind (results d e) (λ s g.
+      yields (record { pushes = p; loads = l; store = s; is = refl; pushing = q; loading = h; given = w; after = g }))))
 
 -- ---- what an instruction names
 
@@ -840,33 +940,66 @@ module _ (tables : Tables) (vars : List IrType) (Q : Type 0) where
 
 -- ---- what holds of every record of an instruction
 
--- of a label's and a Call's own record
-abbrev pub Own : (Instruction → Type 0) → Instr → Type 0
-Own P (Instr.Copy d x) = Unit {0}
-Own P (Instr.Unary d op x) = Unit {0}
-Own P (Instr.Binary d op x y) = Unit {0}
-Own P (Instr.Cast d x) = Unit {0}
-Own P (Instr.Zero d) = Unit {0}
-Own P (Instr.Call d f count) = P (Instruction.Ctrl CtrlOp.Call (Operand.Sym f))
-Own P (Instr.Label l) = P (Instruction.Label l)
-Own P (Instr.Jump l) = Unit {0}
-Own P (Instr.JumpIfNot x l) = Unit {0}
-Own P (Instr.Return x) = Unit {0}
-Own P Instr.Comment = Unit {0}
+-- RSP moved by a number
+abbrev pub moving : BinOp → ℕ → Instruction
+moving op n = Instruction.Binary op (Operand.Reg RSP) (Operand.Imm n) Size.NoSize
+
+-- of a Call's own records, with k arguments in excess; Q has the numbers small
+pub record OwnCall (Q : Type 0) (P : Instruction → Type 0) (f k : ℕ) : Type 0 where
+  pub calls : P (Instruction.Ctrl CtrlOp.Call (Operand.Sym f))
+  pub lowers : (n : ℕ) → (Q → n ≤ 1024) → P (moving BinOp.Sub n)
+  pub raises : (n : ℕ) → (Q → n ≤ 1024) → P (moving BinOp.Add n)
+  pub puts : (j : ℕ) → j < k → (Q → j < 64) → P (putting j)
+
+-- of a label's and a Call's own records
+abbrev pub Own : Type 0 → (Instruction → Type 0) → Instr → List IrOp → Type 0
+Own Q P (Instr.Copy d x) args = Unit {0}
+Own Q P (Instr.Unary d op x) args = Unit {0}
+Own Q P (Instr.Binary d op x y) args = Unit {0}
+Own Q P (Instr.Cast d x) args = Unit {0}
+Own Q P (Instr.Zero d) args = Unit {0}
+Own Q P (Instr.Call d f count) args = OwnCall Q P f (spare args)
+Own Q P (Instr.Label l) args = P (Instruction.Label l)
+Own Q P (Instr.Jump l) args = Unit {0}
+Own Q P (Instr.JumpIfNot x l) args = Unit {0}
+Own Q P (Instr.Return x) args = Unit {0}
+Own Q P Instr.Comment args = Unit {0}
 
 module _ (vars : List IrType) (N : Naming) (Q : Type 0) (P : Instruction → Type 0) (of : (i : Instruction) → Sound vars N Q i → P i) where
   pub sound-all : (b : List Instruction) → All (Sound vars N Q) b → All P b
   sound-all b h = all-map (Sound vars N Q) P b of h
 
-  pub made-all : (tables : Tables) → All P funcEpilogue → (i : Instr) (args : List IrOp) (b : List Instruction) → (Q → SmallInstr i args) → Own P i → Made tables vars N Q i args b → All P b
+  -- RSP lowered or raised by a Call's area
+  stack-all : (op : BinOp) → ((n : ℕ) → (Q → n ≤ 1024) → P (moving op n)) → (k : ℕ) → (Q → k ≤ 64) → All P (moveStack op k)
+  stack-all op w k h = go (eqb k 0)
+    where
+      go : (b : Bool) → All P (cond b [] (moving op (callArea k) ∷ []))
+      go true = tt
+      go false = (w (callArea k) (λ q. let z : k ≤ 64 = h q in omega arith), tt)
+
+  call-all : {tables : Tables} (f : ℕ) (args : List IrOp) (b : List Instruction) → (Q → (f < W) × SmallOperands args × (length args ≤ 64)) → OwnCall Q P f (spare args)
+      → Calling tables vars N Q f args b → All P b
+  call-all f args b q w m =
+      rw (m .is)
+      (all-append P (moveStack BinOp.Sub (spare args)) _ (stack-all BinOp.Sub (w .lowers) (spare args) few)
+      (all-append P (m .pushes) _ (pushing-all vars N Q P of puts (excess-given (N false) 0 0 args (m .given)) (λ z. excess-small 0 0 args (q z .1)) (m .pushing))
+      (all-append P (m .loads) _ (sound-all (m .loads) (loading-sound vars N Q (omega arith) (m .given) (λ z. q z .1) (m .loading)))
+      (w .calls, all-append P (moveStack BinOp.Add (spare args)) _ (stack-all BinOp.Add (w .raises) (spare args) few) (sound-all (m .store) (m .after))))))
+    where
+      few : Q → spare args ≤ 64
+      few z = let h : length args ≤ 64 = q z .2 in omega (arith, excess-few floating 0 0 args)
+
+      puts : (j : ℕ) → j < 0 + spare args → P (putting j)
+      puts j h = w .puts j (omega arith) (λ z. omega (arith, few z))
+
+  pub made-all : (tables : Tables) → All P funcEpilogue → (i : Instr) (args : List IrOp) (b : List Instruction) → (Q → SmallInstr i args) → Own Q P i args → Made tables vars N Q i args b
+      → All P b
   made-all tables t (Instr.Copy d x) args b q w m = sound-all b m
   made-all tables t (Instr.Unary d op x) args b q w m = sound-all b m
   made-all tables t (Instr.Binary d op x y) args b q w m = sound-all b m
   made-all tables t (Instr.Cast d x) args b q w m = sound-all b m
   made-all tables t (Instr.Zero d) args b q w m = sound-all b m
-  made-all tables t (Instr.Call d f count) args b q w m =
-      rw (m .is)
-      (all-append P (m .loads) _ (sound-all (m .loads) (loading-sound vars N Q (omega arith) (m .given) (λ z. q z .1) (m .loading))) (w, sound-all (m .store) (m .after)))
+  made-all tables t (Instr.Call d f count) args b q w m = call-all f args b q w m
   made-all tables t (Instr.Label l) args b q w m = rw m (w, tt)
   made-all tables t (Instr.Jump l) args b q w m = sound-all b m
   made-all tables t (Instr.JumpIfNot x l) args b q w m = sound-all b m

@@ -263,7 +263,7 @@ pub epilogue-known : Fit funcEpilogue
 unfolding known
 epilogue-known = (refl, (refl, (refl, tt)))
 
-module _ (tables : Tables) (F : Function) (small : depth (F .vars) ≤ 1048576) (a : Accepted tables F) (m : Meant F) where
+module _ (tables : Tables) (F : Function) (small : depth (F .vars) ≤ 1048576) (few : length (F .params) ≤ 256) (a : Accepted tables F) (m : Meant F) where
   lines-known : (ls : List Line) → ((k : ℕ) (l : Line) (r : List Line) → drop k ls ≡ l ∷ r → Fit (records tables F l)) → Fit (recordsOfLines tables F ls)
   unfolding recordsOfLines
   lines-known [] h = tt
@@ -274,7 +274,7 @@ module _ (tables : Tables) (F : Function) (small : depth (F .vars) ≤ 1048576) 
   code-known =
       all-append Known (whole tables F) (tail tables F)
       (all-append Known (front tables F) _
-      (front-known (F .vars) (F .params) (front tables F) small (frame-le (F .vars) small) (front-framed tables F a))
+      (front-known (F .vars) (F .params) (front tables F) small few (frame-le (F .vars) small) (front-framed tables F a))
       (lines-known (F .body) (λ k l r d. subst Fit (sym (lowered tables F a m k l r d)) (lower-known F small (l .instr) (m .lines k l r d)))))
       (go (endsInRet (whole tables F)))
     where

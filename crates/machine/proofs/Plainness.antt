@@ -326,7 +326,6 @@ Scalars F [] = Unit {0}
 Scalars F (p ∷ ps) = Scalar F p × Scalars F ps
 
 pub record Meant (F : Function) : Type 0 where
-  pub few : length (F .params) ≤ 6
   pub params : Scalars F (F .params)
   pub ret : isFloat (F .ret) ≡ false
   pub lines : (k : ℕ) (l : Line) (r : List Line) → drop k (F .body) ≡ l ∷ r → PlainInstr F (l .instr)
@@ -367,10 +366,8 @@ unfolding isPlainAt isPlainHead
 meant F h =
     let a = both (every (λ t. isPlainCode (t .code)) (F .vars)) _ (h 0) in
     let b = both (isPlainReturn (F .ret)) _ (a .1) in
-    let c = both (leb (length (F .params)) 6) _ (b .1) in
     record {
-      few = leb-true (length (F .params)) 6 (c .0);
-      params = plain-params F (F .params) (both (areDistinct (F .params)) _ (c .1) .1);
+      params = plain-params F (F .params) (both (areDistinct (F .params)) _ (b .1) .1);
       ret = plain-return (F .ret) (b .0);
       lines = λ k l r d. plain-line F [] (F .body) k l r (h (suc k)) d;
     }

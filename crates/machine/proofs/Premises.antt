@@ -13,14 +13,14 @@ use Rattle.layout.specs.Layout.{endCheck, floatsCheck, tablesCheck, limited, co
 use Rattle.x86.specs.declared.enums.Instruction.{Instruction}
 use Rattle.codegen.specs.Context.{displacement}
 use Rattle.codegen.specs.Utils.{sizeFrom, varSize, convertVar, convertOperand, ownSize, loadFrom, loadValue, loadOperand}
-use Rattle.codegen.specs.Instructions.{generateReturn}
-use Rattle.codegen.specs.Frame.{offsetsFrom, haveWidths, varOffsets, storeParams, funcPrologue}
+use Rattle.codegen.specs.Instructions.{generateReturn, excess}
+use Rattle.codegen.specs.Frame.{offsetsFrom, haveWidths, varOffsets, storeParams, copyParams, funcPrologue}
 use Rattle.codegen.specs.Generation.{Outcome, accepted, refused, generateInstr, generateBody, endsInRet, withEpilogue, generate, compiled, lowered, recordsAfter}
 use Rattle.machine.specs.Machine as x86
 use Rattle.machine.specs.Machine.{State, Choice}
 use Rattle.machine.specs.Plain.{Plain, every, areDistinct, isPlainHead, isPlainInstr, isPlainAt, isFault}
 use Rattle.machine.specs.Simulation.{Entry, Simulates, Demand3}
-use Rattle.machine.specs.Calls.{storedParameters, Apart}
+use Rattle.machine.specs.Calls.{Apart}
 use Rattle.machine.proofs.Demand3.{demand3}
 
 -- ---- the example (01, "The listing program")
@@ -64,11 +64,11 @@ list = listOf (lowered tables sheet 512)
 pub record Premises : Type 0 where
   pub accepts : lowered tables sheet (length room) ≡ accepted list
   pub plain : Plain tables sheet
-  pub apart : Apart (functionOf sheet .vars) (storedParameters (functionOf sheet .params))
+  pub apart : Apart (functionOf sheet .vars) (functionOf sheet .params)
   pub enters : Entry entry
 
 pub premises : Premises
-unfolding bytesOf word half readCell readWithin bytes offsetBehind lastOffset typeSize isFloat isUnsigned elementWidth elfSize operandSize tablesOf operandAt instrAt argumentsAt behind typesAt varsAt operandsAt linesAt functionOf endCheck floatsCheck tablesCheck limited countCheck zerosCheck fieldsCheck typeCheck returnCheck varCheck operandCheck operandsCheck destCheck sideCheck callCheck bodyCheck instrCheck typesCheck varsCheck instrsCheck listsCheck restCheck sheetCheck displacement sizeFrom varSize convertVar convertOperand ownSize loadFrom loadValue loadOperand generateReturn offsetsFrom haveWidths varOffsets storeParams funcPrologue generateInstr generateBody endsInRet withEpilogue generate compiled lowered every areDistinct isPlainHead isPlainInstr isPlainAt isFault
+unfolding bytesOf word half readCell readWithin bytes offsetBehind lastOffset typeSize isFloat isUnsigned elementWidth elfSize operandSize tablesOf operandAt instrAt argumentsAt behind typesAt varsAt operandsAt linesAt functionOf endCheck floatsCheck tablesCheck limited countCheck zerosCheck fieldsCheck typeCheck returnCheck varCheck operandCheck operandsCheck destCheck sideCheck callCheck bodyCheck instrCheck typesCheck varsCheck instrsCheck listsCheck restCheck sheetCheck displacement sizeFrom varSize convertVar convertOperand ownSize loadFrom loadValue loadOperand generateReturn offsetsFrom haveWidths varOffsets excess storeParams copyParams funcPrologue generateInstr generateBody endsInRet withEpilogue generate compiled lowered every areDistinct isPlainHead isPlainInstr isPlainAt isFault
 premises =
     record {
       accepts = refl;

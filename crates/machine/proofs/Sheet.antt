@@ -11,8 +11,9 @@ use Rattle.ir.specs.Types.{lastOffset}
 use Rattle.ir.specs.Function.{tablesOf, functionOf}
 use Rattle.cells.specs.declared.Cursor.{Cursor}
 use Rattle.layout.specs.declared.Checked.{Checked}
-use Rattle.layout.specs.Layout.{cursor, tablesCheck, sheetCheck}
+use Rattle.layout.specs.Layout.{cursor, tablesCheck, sheetCheck, Laid}
 use Rattle.layout.proofs.Laws.{sheet-right, types-total}
+use Rattle.layout.proofs.Walk.{laid-from}
 use Rattle.x86.specs.declared.enums.Instruction.{Instruction}
 use Rattle.x86.specs.Decode.{decodeList}
 use Rattle.x86.proofs.Decoded.{list-back}
@@ -20,7 +21,8 @@ use Rattle.codegen.specs.Generation.{Outcome, accepted, refused, generate, chec
 use Rattle.machine.specs.Plain.{Plain, isPlainAt, isFault, afterLayout, isRefusedAt}
 use Rattle.machine.proofs.Accepted.{never, taken, split, code, accepted-list}
 use Rattle.machine.proofs.Frame.{total-is}
-use Rattle.machine.proofs.Fits.{sheet-small, code-fits}
+use Rattle.machine.proofs.Every.{SmallLines, FewArguments}
+use Rattle.machine.proofs.Fits.{sheet-small, sheet-args, sheet-params, code-fits}
 
 -- what follows a layout that is right
 checked-accepted : {A : Type 0} (c : Checked) (rest : Unit {0} → Outcome A) (a : A) → checked c rest ≡ accepted a
@@ -63,9 +65,23 @@ module _ (tables sheet : List ℕ) (m : ℕ) (is : List Instruction) (e : lowere
   unfolding functionOf
   small = types-total sheet _ 0 (cursor 6) (sheet-right sheet (parts .2 .1) .types) (lit≤ tt)
 
+  laid : Laid sheet
+  laid = laid-from (parts .2 .1)
+
+  -- .. and so are its parameters and each call's arguments
+  pub few-params : length (functionOf sheet .params) ≤ 256
+  few-params = sheet-params sheet laid
+
+  pub few-args : FewArguments (functionOf sheet)
+  few-args = sheet-args sheet laid
+
+  -- its numbers are cells
+  pub small-lines : SmallLines (functionOf sheet)
+  small-lines = sheet-small sheet laid
+
   pub decodes : (old : List ℕ) → decodeList (recordsAfter (lowered tables sheet m) old) (length is) 0 ≡ some is
   unfolding recordsAfter
   decodes old =
       let (a, c) = accepted-list (tablesOf tables) (functionOf sheet) is generated in
-      let f = code-fits (tablesOf tables) (functionOf sheet) (omega (arith, small, total-is (functionOf sheet .vars))) a (sheet-small sheet) in
+      let f = code-fits (tablesOf tables) (functionOf sheet) (omega (arith, small, total-is (functionOf sheet .vars))) few-params a small-lines in
       rw e (rw c (list-back (code (tablesOf tables) (functionOf sheet)) [] (drop (64 * length (code (tablesOf tables) (functionOf sheet))) old) 0 refl f))

@@ -71,11 +71,11 @@ unfolding depthFrom
 depth-grows end [] = omega arith
 depth-grows end (t ∷ ts) = le-trans (omega (arith, grows end t)) (depth-grows _ ts)
 
-offset-from-le : (end : ℕ) (ts : List IrType) (x : ℕ) → x < length ts → offsetFrom end ts x ≤ depthFrom end ts
+offset-from-le : (end : ℕ) (ts : List IrType) (x : ℕ) → offsetFrom end ts x ≤ depthFrom end ts
 unfolding offsetFrom depthFrom
-offset-from-le end [] x h = absurd (not-suc-le-zero h)
-offset-from-le end (t ∷ ts) zero h = depth-grows (behind end t) ts
-offset-from-le end (t ∷ ts) (suc x) h = offset-from-le (behind end t) ts x (le-of-suc-le-suc h)
+offset-from-le end [] x = omega arith
+offset-from-le end (t ∷ ts) zero = depth-grows (behind end t) ts
+offset-from-le end (t ∷ ts) (suc x) = offset-from-le (behind end t) ts x
 
 size-from-le : (end : ℕ) (ts : List IrType) (x : ℕ) → x < length ts → end + sizeOf ts x ≤ offsetFrom end ts x
 unfolding offsetFrom
@@ -90,8 +90,12 @@ from-apart end (t ∷ ts) x zero h k = absurd (not-suc-le-zero h)
 from-apart end (t ∷ ts) zero (suc y) h k = size-from-le (behind end t) ts y (le-of-suc-le-suc k)
 from-apart end (t ∷ ts) (suc x) (suc y) h k = from-apart (behind end t) ts x y (le-of-suc-le-suc h) (le-of-suc-le-suc k)
 
+-- of what is no variable too
+pub offset-total : (ts : List IrType) (x : ℕ) → offset ts x ≤ depth ts
+offset-total ts x = offset-from-le 0 ts x
+
 pub offset-le : (ts : List IrType) (x : ℕ) → x < length ts → offset ts x ≤ depth ts
-offset-le ts x h = offset-from-le 0 ts x h
+offset-le ts x h = offset-total ts x
 
 pub size-le : (ts : List IrType) (x : ℕ) → x < length ts → sizeOf ts x ≤ offset ts x
 size-le ts x h = omega (arith, size-from-le 0 ts x h)
@@ -111,7 +115,7 @@ outside-slot a b f o n ha hb hn ho hf h =
     subst (λ (s : ℕ). n ≤ above s a) e (beyond a ((b + (W - f)) % W) (f - o) n f (omega arith) ha (omega arith) hf h)
 
 -- a displacement taken modulo 2 ^ 64 leads to the same address
-wrap : (b o : ℕ) → (b + (W - o) % W) % W ≡ (b + (W - o)) % W
+pub wrap : (b o : ℕ) → (b + (W - o) % W) % W ≡ (b + (W - o)) % W
 wrap b o = omega arith
 
 pub outside-saved : (a b f : ℕ) → a < W → b < W → f ≤ 1048591 → f + 8 ≤ above ((b + (W - f)) % W) a → 8 ≤ above b a

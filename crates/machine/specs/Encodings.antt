@@ -51,6 +51,7 @@ abbrev pub isPlaced : Base → ℕ → Bool
 isPlaced Base.Rbp d = isNear d
 isPlaced Base.String k = true
 isPlaced Base.Float k = true
+isPlaced Base.Rsp d = isNear d
 
 -- ---- operands
 

@@ -87,11 +87,12 @@ keepsUpper n = ltb n 4
 unfoldable pub merge : ℕ → ℕ → ℕ → ℕ
 merge n a v = cond (keepsUpper n) (a / bound n * bound n + v % bound n) (v % bound n)
 
--- RBP plus a displacement, or RIP-relative, at a constant
+-- RBP or RSP plus a displacement, or RIP-relative, at a constant
 abbrev pub placeOf : Base → ℕ → State → ℕ
 placeOf Base.Rbp d s = (s .regs 5 + d) % W
 placeOf Base.String k s = s .links Base.String k % W
 placeOf Base.Float k s = s .links Base.Float k % W
+placeOf Base.Rsp d s = (s .regs 4 + d) % W
 
 abbrev pub address : MemAddress → State → ℕ
 address a s = placeOf (a .base) (a .disp) s

@@ -57,11 +57,11 @@ unfoldable pub areDistinct : List VarId → Bool
 areDistinct [] = true
 areDistinct (p ∷ ps) = isAbsent (p .id) ps && areDistinct ps
 
--- variables, parameters, return type: at most six parameters, ids distinct, none an array
+-- variables, parameters, return type: ids distinct, none an array; of parameters any number (M-112)
 unfoldable pub isPlainHead : Function → Bool
 isPlainHead F =
     every (λ t. isPlainCode (t .code)) (F .vars)
-    && (isPlainReturn (F .ret) && (leb (length (F .params)) 6 && (areDistinct (F .params) && every (isScalarVar F) (F .params))))
+    && (isPlainReturn (F .ret) && (areDistinct (F .params) && every (isScalarVar F) (F .params)))
 
 -- ---- operands
 

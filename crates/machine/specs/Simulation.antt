@@ -40,14 +40,18 @@ base s = (s .regs 4 + (W - 8)) % W
 abbrev pub abiRegisters : List ℕ
 abiRegisters = 7 ∷ 6 ∷ 2 ∷ 1 ∷ 8 ∷ 9 ∷ []
 
--- the value of parameter j, of n bytes: the low bytes of its register; a plain function has at most six
-abbrev pub parameterAt : State → ℕ → ℕ → ℕ
-parameterAt s j n = s .regs (getD abiRegisters j 0) % bound n
+-- the n low bytes of number j of the values that the caller has put on the stack (System V ABI, 3.2.3; M-112)
+abbrev pub stackAt : State → ℕ → ℕ → ℕ
+stackAt s j n = load (s .mem) ((base s + (16 + 8 * j)) % W) n
 
--- the parameters from number j on get their values
+-- the value of parameter k, of n bytes: the low bytes of its register, or of its place on the stack
+abbrev pub parameterAt : State → ℕ → ℕ → ℕ
+parameterAt s k n = cond (ltb k 6) (s .regs (getD abiRegisters k 0) % bound n) (stackAt s (k - 6) n)
+
+-- the parameters from number k on get their values
 abbrev pub fill : State → ℕ → List VarId → Values → Values
-fill s j [] σ = σ
-fill s j (p ∷ ps) σ = fill s (suc j) ps (put σ (p .id) (bytes (p .ty)) (parameterAt s j (bytes (p .ty))))
+fill s k [] σ = σ
+fill s k (p ∷ ps) σ = fill s (suc k) ps (put σ (p .id) (bytes (p .ty)) (parameterAt s k (bytes (p .ty))))
 
 -- F at its entry: a parameter starts with its value, any other variable with its slot's bytes
 abbrev pub start : Function → State → steps.State
@@ -115,9 +119,9 @@ pub record Agrees (tables : Tables) (F : Function) (c : List Instruction) (s₀ 
   pub slots : (x i : ℕ) → x < length (F .vars) → i < sizeOf (F .vars) x → s .mem (slotByte (F .vars) (base s₀) x i) ≡ t .vals x i
   pub stands : Stands tables F c s₀ s t (t .status)
 
--- the most records for n steps of F (01, demand 3)
+-- the most records for n steps of F, with k parameters beyond the six registers: 12 + 2k + 5n (01, demand 3; M-112)
 abbrev pub most : Function → ℕ → ℕ
-most F n = 12 + 5 * n
+most F n = 12 + 2 * (length (F .params) - 6) + 5 * n
 
 -- the run keeps pace with F, step by step: after n steps of F, `at n` records have run to F's place
 pub record Follows (tables : Tables) (F : Function) (c : List Instruction) (o : ℕ → Choice) (s₀ : State) : Type 0 where

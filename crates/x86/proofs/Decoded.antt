@@ -135,6 +135,7 @@ address-back : (b : Base) (d : ℕ) → operandOf (tagOf (Operand.MemoryAddress 
 address-back Base.Rbp d = refl
 address-back Base.String d = refl
 address-back Base.Float d = refl
+address-back Base.Rsp d = refl
 
 operand-back : (x : Operand) → FitsOperand x → operandOf (tagOf x) (valueOf x) ≡ some x
 operand-back Operand.NoOperand h = refl
@@ -276,6 +277,7 @@ base-lt : (b : Base) → baseTag b < 2 ^ 64
 base-lt Base.Rbp = lit< tt
 base-lt Base.String = lit< tt
 base-lt Base.Float = lit< tt
+base-lt Base.Rsp = lit< tt
 
 tag-lt : (x : Operand) → tagOf x < 2 ^ 64
 tag-lt Operand.NoOperand = lit< tt

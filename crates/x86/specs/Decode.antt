@@ -21,7 +21,7 @@ use Rattle.x86.specs.declared.enums.Prefix.{Prefix}
 use Rattle.x86.specs.declared.enums.ExtendOp.{ExtendOp}
 use Rattle.x86.specs.declared.enums.ConvOp.{ConvOp}
 use Rattle.x86.specs.declared.enums.Instruction.{Instruction}
-use Rattle.x86.specs.Registers.{gpr, rbpPlus, ripString, ripFloat}
+use Rattle.x86.specs.Registers.{gpr, rbpPlus, rspPlus, ripString, ripFloat}
 use Rattle.x86.specs.Records.{Record, conditionCode, recordOf}
 
 infixl 20 _>>=_
@@ -80,11 +80,11 @@ conversions =
 abbrev pub registerAt : ℕ → Option Register
 registerAt k = cond (ltb k 32) (some (gpr k)) none
 
--- by the tag, from 0: none, register, immediate, symbol, label, RBP plus value, string, float
+-- by the tag, from 0: none, register, immediate, symbol, label, RBP plus value, string, float, RSP plus value
 abbrev pub operandOf : ℕ → ℕ → Option Operand
 operandOf tag v =
     getElem? (some Operand.NoOperand ∷ (registerAt v >>= λ r. some (Operand.Reg r)) ∷ some (Operand.Imm v) ∷ some (Operand.Sym v)
-    ∷ some (Operand.Label v) ∷ some (rbpPlus v) ∷ some (ripString v) ∷ some (ripFloat v) ∷ []) tag >>= λ o. o
+    ∷ some (Operand.Label v) ∷ some (rbpPlus v) ∷ some (ripString v) ∷ some (ripFloat v) ∷ some (rspPlus v) ∷ []) tag >>= λ o. o
 
 -- the operands and sizes of a record
 abbrev pub dstOf : Record → Option Operand

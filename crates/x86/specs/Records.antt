@@ -37,11 +37,12 @@ sizePosition Size.U16 = 2
 sizePosition Size.U32 = 3
 sizePosition Size.U64 = 4
 
--- 5 RBP plus value, 6 string, 7 float
+-- 5 RBP plus value, 6 string, 7 float, 8 RSP plus value
 abbrev pub baseTag : Base → ℕ
 baseTag Base.Rbp = 5
 baseTag Base.String = 6
 baseTag Base.Float = 7
+baseTag Base.Rsp = 8
 
 -- 0 none, 1 register, 2 immediate, 3 symbol, 4 label
 abbrev pub tagOf : Operand → ℕ

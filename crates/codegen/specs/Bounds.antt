@@ -1,0 +1,14 @@
+-- Auxiliary: how many records there can be; that there are no more is `instr-part` and `prologue-few` (proofs/Shapes).
+use Prim.Native.Nat.{ℕ, _+_, _*_}
+
+-- of an instruction with n arguments
+abbrev pub mostRecords : ℕ → ℕ
+mostRecords n = 7 + 2 * n
+
+-- of a body, which has at most 4,096 instructions, with at most 64 arguments each: 552,960 (01, "Limits")
+abbrev pub mostInBody : ℕ
+mostInBody = 4096 * mostRecords 64
+
+-- of the prologue with n parameters: 529 for the 256 parameters that a sheet can have
+abbrev pub mostInPrologue : ℕ → ℕ
+mostInPrologue n = 17 + 2 * n
