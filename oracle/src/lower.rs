@@ -17,7 +17,7 @@ pub const PAGE_FULL: u64 = 9;
 pub const RECORD: usize = 64;
 
 pub struct Answer {
-    /// The list, or refusals 1 to 9.
+    /// The list, or refusals 1 to 7 and 9.
     pub result: Result<Vec<Record>, Refusal>,
     /// The plain test: all numbers at fault, ascending; it names the first.
     pub faults: Vec<u64>,
@@ -43,8 +43,13 @@ fn fit(list: Vec<Record>, out_len: u64) -> Result<Vec<Record>, Refusal> {
     Ok(list)
 }
 
-/// Krc's list with what the rules set, or refusals 4 to 8 with their place.
+/// Krc's list with what the rules set, or refusals 4 to 7 with their place.
 pub fn lower(tables: &Tables, sheet: &Sheet) -> Result<Vec<Record>, Refusal> {
+    rules::excess::lower(tables, sheet, without_excess)
+}
+
+/// The same of a function whose arguments and parameters all have registers.
+fn without_excess(tables: &Tables, sheet: &Sheet) -> Result<Vec<Record>, Refusal> {
     let mut list = krc_list(tables, sheet)?;
     rules::apply(tables, sheet, &mut list);
     Ok(list)
@@ -61,7 +66,7 @@ pub fn held(tables: &[u8], sheet: &[u8], out_len: u64) -> Vec<&'static str> {
     altered.filter(|(_, list)| fit(list.clone(), out_len) != answer).map(|(name, _)| name).collect()
 }
 
-/// Krc's own list, or refusals 4 to 8 with their place.
+/// Krc's own list, or refusals 4 to 7 with their place.
 pub fn krc_list(tables: &Tables, sheet: &Sheet) -> Result<Vec<Record>, Refusal> {
     let whole = sheet.body.len();
     run_krc(tables, sheet, whole).map_err(|number| {

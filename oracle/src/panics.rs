@@ -1,4 +1,4 @@
-//! Krc's panics, caught and told apart as refusals 4 to 8.
+//! Krc's panics, caught and told apart as refusals 4 to 7.
 
 use std::cell::{Cell, RefCell};
 use std::ops::RangeInclusive;
@@ -9,7 +9,6 @@ pub const NO_WIDTH: u64 = 4;
 pub const NO_ENTRY: u64 = 5;
 pub const ODD_WIDTH: u64 = 6;
 pub const NO_LOWERING: u64 = 7;
-pub const REGISTERS_SPENT: u64 = 8;
 
 struct Panic {
     file: String,
@@ -63,14 +62,14 @@ fn read(info: &PanicHookInfo) -> Panic {
 fn refusal(panic: &Panic) -> u64 {
     let krc = sources();
     assert!(panic.file.contains("/krc/"), "a panic outside Krc: {}", panic.message);
+    let excess = krc.float_parameter.holds(panic) || krc.normal_param.holds(panic);
+    assert!(!excess, "Krc was handed an argument beyond the registers");
     if panic.message.starts_with("index out of bounds") {
         NO_ENTRY
     } else if krc.type_size.holds(panic) {
         NO_WIDTH
     } else if krc.size_from.holds(panic) {
         ODD_WIDTH
-    } else if krc.float_parameter.holds(panic) || krc.normal_param.holds(panic) {
-        REGISTERS_SPENT
     } else {
         NO_LOWERING
     }

@@ -10,7 +10,7 @@ const SHORT_HIGH: i64 = (1 << 32) - 1;
 const IMMEDIATE_HIGH: i64 = (1 << 31) - 1;
 
 /// All numbers at fault, ascending, so that the first is the plain test's answer: 0 for variables,
-/// parameters and return type, else the instruction's number from 1. `refusal` is one of 4 to 8, a
+/// parameters and return type, else the instruction's number from 1. `refusal` is one of 4 to 7, a
 /// fault at its place.
 pub fn faults(sheet: &Sheet, refusal: Option<Refusal>) -> Vec<u64> {
     let mut faults: BTreeSet<u64> = refusal.iter().map(|refusal| refusal.place).collect();
@@ -46,7 +46,6 @@ fn head_is_plain(sheet: &Sheet) -> bool {
     ids.sort_unstable();
     ids.dedup();
     sheet.variables.iter().all(|ty| has_plain_code(*ty))
-        && sheet.parameters.len() <= 6
         && ids.len() == sheet.parameters.len()
         && sheet.parameters.iter().all(|param| is_plain_scalar(sheet, *param))
         && sheet.return_type.is_none_or(return_type_is_plain)

@@ -178,8 +178,9 @@ fn case_7_arguments() {
         args: [vec![read(LONG); plain], vec![read(FLOAT); float]].concat(),
     };
     assert_eq!(block(call(6, 8)).len(), 16);
-    assert_eq!(refusal(call(7, 8)), 8);
-    assert_eq!(refusal(call(6, 9)), 8);
+    // M-112: Sub, load and store, Add
+    assert_eq!(block(call(7, 8)).len(), 20);
+    assert_eq!(block(call(6, 9)).len(), 20);
 }
 
 #[test]
@@ -279,15 +280,33 @@ fn comparison_asks_left_first_and_dest_last() {
 }
 
 #[test]
-fn arguments_ask_for_a_register_first() {
-    let call = |last| Instr::Call {
-        dest: None,
+fn arguments_beyond_the_registers_are_asked_first() {
+    let call = |dest, first, last| Instr::Call {
+        dest,
         symbol: 0,
-        args: [vec![Operand::Null; 6], vec![last]].concat(),
+        args: [vec![first], vec![Operand::Null; 5], vec![Operand::Null, last]].concat(),
     };
-    assert_eq!(refusal(call(Operand::Address(own(LONG)))), 8);
-    assert_eq!(refusal(call(Operand::DataAddress(9))), 8);
-    assert_eq!(refusal(call(Operand::Float(9))), 5);
+    let (address, lost) = (Operand::Address(own(LONG)), Operand::Var(beyond(LONG)));
+    let null = Operand::Null;
+    assert_eq!(refusal(call(None, null, address)), 7);
+    assert_eq!(refusal(call(None, null, Operand::DataAddress(9))), 5);
+    assert_eq!(refusal(call(None, null, Operand::Float(9))), 5);
+    assert_eq!(refusal(call(None, lost, address)), 7);
+    assert_eq!(refusal(call(None, address, lost)), 5);
+    // dest comes last, and its look-up before its size
+    assert_eq!(refusal(call(Some(beyond(CUSTOM)), address, null)), 7);
+    assert_eq!(refusal(call(Some(beyond(CUSTOM)), null, address)), 7);
+    assert_eq!(refusal(call(Some(beyond(CUSTOM)), null, null)), 5);
+    assert_eq!(refusal(call(Some(var(0, CUSTOM)), null, null)), 4);
+    // a float has the eight XMM registers
+    assert_eq!(refusal(call(None, lost, Operand::Float(0))), 5);
+    let args = [vec![lost], vec![Operand::Float(0); 8], vec![Operand::Float(9)]].concat();
+    assert_eq!(refusal(Instr::Call { dest: None, symbol: 0, args }), 5);
+    // the first refused call is the one that counts
+    let body = vec![call(None, null, null), call(None, address, null), call(None, null, lost)];
+    assert_eq!(lowered(&sheet(body)), Err((7, 2)));
+    let body = vec![call(None, null, null), call(None, null, lost), call(None, address, null)];
+    assert_eq!(lowered(&sheet(body)), Err((5, 2)));
 }
 
 #[test]
@@ -398,14 +417,112 @@ fn strings_as_operands() {
     }
 }
 
+const SUB_RSP: [i64; 5] = [0, 3, 1, 4, 2];
+const ADD_RSP: [i64; 5] = [0, 2, 1, 4, 2];
+
+/// The records of a move of RSP.
+fn moved(operation: [i64; 5], area: i64) -> Record {
+    let [form, operation, tag, register, immediate] = operation;
+    [form, operation, tag, register, immediate, area, 0, 0]
+}
+
 #[test]
-fn excess_parameters_are_not_looked_at() {
-    let six = vec![var(0, LONG); 6];
-    let kept = lowered(&Sheet { parameters: six.clone(), ..sheet(vec![]) });
-    for excess in [var(i64::MAX, LONG), var(0, CUSTOM), array(0, BYTE, 3)] {
-        let parameters = [six.clone(), vec![excess]].concat();
-        assert_eq!(lowered(&Sheet { parameters, ..sheet(vec![]) }), kept);
+fn calls_with_excess() {
+    // six general and eight float registers are spent
+    let registers = [vec![Operand::Null; 6], vec![read(FLOAT); 8]].concat();
+    let excess = vec![
+        read(BOOL),
+        Operand::Float(1),
+        Operand::DataAddress(0),
+        read(SHORT_FLOAT),
+        Operand::Bool(true),
+        Operand::Var(array(11, BYTE, 3)),
+        Operand::Var(var(0, NULL)),
+        short(5),
+        Operand::Float(0),
+    ];
+    let args = [registers.clone(), excess].concat();
+    let list = block(Instr::Call { dest: Some(own(BYTE)), symbol: 7, args });
+    let loads = [
+        [7, 2, 1, 0, 5, -37, 8, 1],
+        [0, 0, 1, 0, 7, 1, 4, 0],
+        [8, 0, 1, 0, 6, 0, 0, 0],
+        [0, 0, 1, 0, 5, -36, 4, 0],
+        [0, 0, 1, 0, 2, 1, 4, 0],
+        [0, 0, 1, 0, 5, -52, 8, 0],
+        [0, 0, 1, 0, 5, -8, 0, 0],
+        [0, 0, 1, 0, 2, 5, 4, 0],
+        [0, 0, 1, 0, 7, 0, 8, 0],
+    ];
+    assert_eq!(list[0], moved(SUB_RSP, 80));
+    for (j, load) in loads.into_iter().enumerate() {
+        assert_eq!(list[1 + 2 * j], load);
+        assert_eq!(list[2 + 2 * j], [0, 0, 8, 8 * j as i64, 1, 0, 8, 0]);
     }
+    let kept = block(Instr::Call { dest: Some(own(BYTE)), symbol: 7, args: registers });
+    assert_eq!(kept[14..16], [[0, 0, 1, 0, 2, 8, 0, 0], [6, 1, 3, 7, 0, 0, 0, 0]]);
+    assert_eq!(list[19..35], kept[..16]);
+    assert_eq!(list[35..], [moved(ADD_RSP, 80), kept[16]]);
+}
+
+#[test]
+fn both_classes_in_one_sequence() {
+    // a seventh general, a ninth float, then again a general, with arguments in registers between
+    let args = [
+        vec![Operand::Float(0); 8],
+        vec![Operand::Float(0)],
+        vec![long(1); 6],
+        vec![long(2), Operand::Float(0), long(3)],
+    ]
+    .concat();
+    let list = block(Instr::Call { dest: None, symbol: 0, args });
+    assert_eq!(list[0], moved(SUB_RSP, 32));
+    let loaded: Vec<[i64; 2]> = (0..4).map(|j| [list[1 + 2 * j][4], list[1 + 2 * j][5]]).collect();
+    assert_eq!(loaded, [[7, 0], [2, 2], [7, 0], [2, 3]]);
+    assert_eq!(list.len(), 1 + 8 + 14 + 2 + 1);
+    // two calls, one without excess between them
+    let call = |count| Instr::Call { dest: None, symbol: 0, args: vec![long(9); count] };
+    let list = lowered(&sheet(vec![call(7), call(6), call(9)])).expect("it lowers");
+    let areas: Vec<i64> = list.iter().filter(|r| r[..5] == SUB_RSP).map(|r| r[5]).collect();
+    assert_eq!(areas[1..], [16, 32]);
+    assert_eq!(list.len(), 3 + (2 + 2 + 8) + 8 + (2 + 6 + 8) + 3);
+}
+
+#[test]
+fn parameters_beyond_the_registers() {
+    let six = vec![own(LONG); 6];
+    let lower = |excess: Vec<Variable>| {
+        lowered(&Sheet { parameters: [six.clone(), excess].concat(), ..sheet(vec![]) })
+    };
+    let list = lower(vec![own(BYTE), own(FLOAT), own(SHORT), array(10, BYTE, 2), own(FLOAT)]);
+    let list = list.expect("it lowers");
+    // floats have registers of their own, and come behind the general ones
+    assert_eq!(list[8], [0, 0, 5, -8, 1, 9, 8, 0]);
+    assert_eq!(list[9][..6], [0, 12, 5, -32, 1, 16]);
+    assert_eq!(list[10][..6], [0, 12, 5, -32, 1, 17]);
+    assert_eq!(
+        list[11..17],
+        [
+            [7, 2, 1, 0, 5, 16, 8, 1],
+            [0, 0, 5, -39, 1, 0, 1, 0],
+            [0, 0, 1, 0, 5, 24, 4, 0],
+            [0, 0, 5, -20, 1, 0, 4, 0],
+            [0, 0, 1, 0, 5, 32, 2, 0],
+            [0, 0, 5, -49, 1, 0, 2, 0],
+        ]
+    );
+    // a ninth float goes through RAX too
+    let parameters = vec![own(SHORT_FLOAT); 9];
+    let list = lowered(&Sheet { parameters, ..sheet(vec![]) }).expect("it lowers");
+    assert_eq!(list[11..13], [[0, 0, 1, 0, 5, 16, 4, 0], [0, 0, 5, -36, 1, 0, 4, 0]]);
+    // 4 and 6 before 5 on one of them, the other way round in registers
+    assert_eq!(lower(vec![beyond(CUSTOM)]), Err((4, 0)));
+    assert_eq!(lower(vec![array(13, BYTE, 3)]), Err((6, 0)));
+    assert_eq!(lower(vec![beyond(LONG)]), Err((5, 0)));
+    assert_eq!(lower(vec![beyond(LONG), var(0, CUSTOM)]), Err((5, 0)));
+    assert_eq!(lower(vec![array(12, BYTE, 0)]), Err((6, 0)));
+    // registers come first, whole ones before floats
+    assert_eq!(lower(vec![var(0, CUSTOM), beyond(FLOAT)]), Err((5, 0)));
 }
 
 #[test]
@@ -639,7 +756,7 @@ fn the_compact_form_is_read_back() {
 fn the_list_has_every_refusal_and_no_repeats() {
     let cases = list::cases();
     assert!(cases.len() >= 2_000);
-    for number in 1..=9 {
+    for number in [1, 2, 3, 4, 5, 6, 7, 9] {
         let with = cases
             .iter()
             .filter(|case| case.result.as_ref().is_err_and(|refusal| refusal.number == number));

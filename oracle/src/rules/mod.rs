@@ -1,5 +1,7 @@
-//! What requests of 02 take from Krc's authority: each rule is a piece of its own, written from 02, and sets its cells in Krc's own list.
+//! What requests of 02 take from Krc's authority: each rule is a piece of its own, written from 02. `apply` sets cells in Krc's own
+//! list; `excess` puts records around it.
 
+pub mod excess;
 mod short_floats;
 mod slots;
 mod unsigned_shorts;
