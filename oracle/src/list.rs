@@ -2,7 +2,7 @@
 
 use std::collections::HashSet;
 
-use crate::cases::{Draft, any, damaged, faulty, limits, plain, plain_edges, systematic};
+use crate::cases::{Draft, any, damaged, excess, faulty, limits, plain, plain_edges, systematic};
 use crate::compact::{Case, parse_inputs};
 use crate::rng::Rng;
 
@@ -11,6 +11,8 @@ const ANY: usize = 300;
 const PLAIN: usize = 250;
 const DAMAGED: usize = 250;
 const FAULTY: usize = 120;
+/// Random functions with arguments and parameters beyond the registers.
+const EXCESS: usize = 40;
 
 /// What the fuzzer found beyond the other cases (tests/fuzz/collect.py).
 const FUZZED: &[u8] = include_bytes!("cases/fuzzed.bin");
@@ -26,6 +28,8 @@ pub fn cases() -> Vec<Case> {
     all.extend((0..DAMAGED).map(|_| damaged(&mut rng, &small)));
     all.extend(faulty_drafts(&mut rng).iter().map(|draft| draft.input().with_exact_room()));
     all.extend(limits);
+    all.extend(excess::drafts().iter().map(|draft| draft.input().with_exact_room()));
+    all.extend((0..EXCESS).map(|_| excess::draft(&mut rng).input().with_random_room(&mut rng)));
     all.extend(parse_inputs(FUZZED).expect("a file of inputs"));
     without_repeats(all)
 }

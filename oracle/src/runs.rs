@@ -3,7 +3,7 @@
 use std::fmt::Write;
 
 use crate::lower::list;
-use crate::processor::trial::{Entry, Trial, draw, frame, slots};
+use crate::processor::trial::{Entry, Trial, draw, excess, frame, slots, stacked};
 use crate::rng::Rng;
 use crate::sheet::Sheet;
 use crate::steps::{End, Run, divides_signed, ends_by_the_least};
@@ -24,6 +24,10 @@ pub fn lines(seed: u64, count: usize) -> String {
         if trial.sheet.cells().len() > MAX_CELLS || frame(&trial.sheet) > MAX_FRAME {
             continue;
         }
+        let has_excess = excess(&trial.sheet) > 0;
+        if done % 8 == 4 && !has_excess {
+            continue;
+        }
         if let Some(entry) =
             trial.entries.iter().find(|entry| wanted(done, &trial.sheet, &entry.run))
         {
@@ -36,7 +40,7 @@ pub fn lines(seed: u64, count: usize) -> String {
 
 /// Of eight runs one ends by a fault, every second of these on the least value by -1, one with no
 /// instruction left, one after many steps, and one ends by a Return in a function that divides
-/// signed numbers.
+/// signed numbers; one is of a function with parameters beyond the registers.
 fn wanted(k: usize, sheet: &Sheet, run: &Run) -> bool {
     run.steps <= MAX_STEPS
         && match k % 8 {
@@ -49,8 +53,9 @@ fn wanted(k: usize, sheet: &Sheet, run: &Run) -> bool {
         }
 }
 
-/// Counted lists of numbers: the sheet's cells, the general registers but RSP (given as 0), the frame's bytes; then how the run ends (0 with no
-/// instruction left, 1 by a Return, 2 by a fault), its steps, width and value; then the variables' bytes at the end, counted.
+/// Counted lists of numbers: the sheet's cells, the general registers but RSP (given as 0), the frame's bytes, the bytes of the parameters beyond the
+/// registers, eight each; then how the run ends (0 with no instruction left, 1 by a Return, 2 by a fault), its steps, width and value; then the variables'
+/// bytes at the end, counted.
 fn line(trial: &Trial, entry: &Entry, text: &mut String) {
     let below = entry.below;
     let bytes = &entry.region[below - frame(&trial.sheet)..below];
@@ -67,6 +72,8 @@ fn line(trial: &Trial, entry: &Entry, text: &mut String) {
         entry.registers[..16].iter().enumerate().map(|(k, r)| if k == 4 { 0 } else { *r }),
     );
     counted(text, bytes.iter());
+    let stacked = (0..excess(&trial.sheet)).flat_map(|j| entry.region[stacked(below, j)].iter());
+    counted(text, stacked);
     write!(text, "{end} {} {width} {value} ", entry.run.steps).expect("a string takes text");
     counted(text, entry.run.variables.concat().iter());
     text.truncate(text.trim_end().len());

@@ -2,6 +2,7 @@
 
 pub mod any;
 pub mod damage;
+pub mod excess;
 pub mod faulty;
 pub mod limits;
 pub mod plain;
@@ -60,7 +61,8 @@ impl Input {
 /// One case of any sort.
 pub fn draw(rng: &mut Rng, limits: &[Case]) -> Case {
     match rng.below(20) {
-        0..6 => any::draft(rng).input().with_random_room(rng),
+        0..5 => any::draft(rng).input().with_random_room(rng),
+        5 => excess::draft(rng).input().with_random_room(rng),
         6..10 => plain::draft(rng).input().with_random_room(rng),
         10..13 => faulty::draft(rng).input().with_random_room(rng),
         13 => limits[rng.below(limits.len())].clone(),
@@ -70,8 +72,9 @@ pub fn draw(rng: &mut Rng, limits: &[Case]) -> Case {
 
 /// A damaged copy of a case.
 pub fn damaged(rng: &mut Rng, limits: &[Case]) -> Case {
-    let input = match rng.below(5) {
+    let input = match rng.below(6) {
         0 | 1 => any::draft(rng).input(),
+        4 => excess::draft(rng).input(),
         2 | 3 => plain::draft(rng).input(),
         _ => {
             let case = limits[rng.below(limits.len())].clone();

@@ -25,7 +25,13 @@ pub fn draft(rng: &mut Rng) -> Draft {
 }
 
 fn head(rng: &mut Rng) -> Sheet {
-    let count = if rng.chance(1, 40) { 0 } else { rng.between(1, 14) };
+    // a quarter has parameters beyond the six registers
+    let many = rng.chance(1, 4);
+    let count = match (many, rng.chance(1, 40)) {
+        (true, _) => rng.between(8, 48),
+        (_, true) => 0,
+        _ => rng.between(1, 14),
+    };
     let mut sheet = Sheet {
         variables: (0..count).map(|_| entry(rng)).collect(),
         return_type: rng.chance(3, 4).then(|| Type::scalar(rng.pick(&CODES))),
@@ -39,7 +45,7 @@ fn head(rng: &mut Rng) -> Sheet {
     }
     let mut ids: Vec<usize> = (0..count).filter(|id| !sheet.variables[*id].is_array()).collect();
     rng.shuffle(&mut ids);
-    ids.truncate(rng.below(7));
+    ids.truncate(if many { rng.between(7, 40) } else { rng.below(7) });
     sheet.parameters = ids.into_iter().map(|id| sheet.variable(id)).collect();
     sheet
 }

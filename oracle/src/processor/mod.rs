@@ -10,7 +10,7 @@ use crate::sheet::{Instr, binary};
 use crate::steps::{End, divides_signed, ends_by_the_least};
 use batch::{BuildFolder, Outcome};
 use krc::record::Record;
-use trial::{COUNTER, Entry, Lowering, POSITION, RBP, RSP, SAVED, Trial, frame, slots};
+use trial::{COUNTER, Entry, Lowering, POSITION, RBP, RSP, SAVED, Trial, excess, frame, slots};
 
 /// Functions assembled together.
 const BATCH: usize = 500;
@@ -24,6 +24,9 @@ const RET: [i64; 2] = [6, 2];
 #[derive(Default)]
 struct Totals {
     functions: usize,
+    /// With parameters beyond the registers, and the most of these.
+    excess: usize,
+    most_excess: usize,
     runs: usize,
     values: usize,
     fell_off: usize,
@@ -55,12 +58,15 @@ pub fn test(seed: u64, count: usize, lowering: Lowering) -> Result<String, Strin
 
 fn summary(totals: &Totals) -> String {
     format!(
-        "{} functions, {} with a signed division of four bytes and {} of eight, {} runs: \
+        "{} functions, {} with a signed division of four bytes and {} of eight, {} with up to {} parameters \
+         beyond the registers, {} runs: \
          {} returned a value, {} fell off the end, {} faulted, {} of them on the least value by -1; \
          {} steps (at most {} in a run), {} records run (at most {})\n",
         totals.functions,
         totals.signed[0],
         totals.signed[1],
+        totals.excess,
+        totals.most_excess,
         totals.runs,
         totals.values,
         totals.fell_off,
@@ -89,6 +95,10 @@ fn test_batch(folder: &BuildFolder, trials: &[Trial], totals: &mut Totals) -> Re
     totals.functions += trials.len();
     for (total, width) in totals.signed.iter_mut().zip([4, 8]) {
         *total += trials.iter().filter(|trial| divides_signed_at(trial, width)).count();
+    }
+    for excess in trials.iter().map(|trial| excess(&trial.sheet)).filter(|excess| *excess > 0) {
+        totals.excess += 1;
+        totals.most_excess = totals.most_excess.max(excess);
     }
     Ok(())
 }
@@ -122,7 +132,7 @@ fn compare(trial: &Trial, entry: &Entry, outcome: &Outcome, counting: bool) -> R
     compare_addresses(trial, entry, outcome)?;
     compare_region(trial, entry, outcome)?;
     if counting {
-        compare_count(entry, outcome.registers[COUNTER])?;
+        compare_count(trial, entry, outcome.registers[COUNTER])?;
         compare_position(trial, entry, outcome.registers[POSITION] as usize)?;
     }
     Ok(())
@@ -194,9 +204,9 @@ fn compare_region(trial: &Trial, entry: &Entry, outcome: &Outcome) -> Result<(),
     }
 }
 
-/// At most 12 records, and 5 for each step.
-fn compare_count(entry: &Entry, records: u64) -> Result<(), String> {
-    let bound = 12 + 5 * entry.run.steps;
+/// At most 12 records, 2 for each parameter beyond the registers, and 5 for each step.
+fn compare_count(trial: &Trial, entry: &Entry, records: u64) -> Result<(), String> {
+    let bound = 12 + 2 * excess(&trial.sheet) as u64 + 5 * entry.run.steps;
     if records <= bound {
         return Ok(());
     }

@@ -70,6 +70,17 @@ pub fn slots(sheet: &Sheet, below: usize) -> Vec<std::ops::Range<usize>> {
     starts.zip(sizes).map(|(start, size)| start..start + size).collect()
 }
 
+/// Where parameter `j` beyond the registers lies in such a region: at B + 16 + 8j.
+pub fn stacked(below: usize, j: usize) -> std::ops::Range<usize> {
+    let start = below + LINK + 8 * j;
+    start..start + 8
+}
+
+/// How many parameters of a plain function lie beyond the registers.
+pub fn excess(sheet: &Sheet) -> usize {
+    sheet.parameters.len().saturating_sub(PARAMETERS.len())
+}
+
 fn entry(rng: &mut Rng, sheet: &Sheet) -> Entry {
     let below = frame(sheet) + MARGIN;
     let mut region = vec![0; below + LINK + MARGIN];
@@ -81,13 +92,16 @@ fn entry(rng: &mut Rng, sheet: &Sheet) -> Entry {
         mix_in_edge_value(rng, &mut region[slot.clone()]);
     }
     let mut variables: Vec<Vec<u8>> = slots.into_iter().map(|slot| region[slot].to_vec()).collect();
-    for (parameter, register) in sheet.parameters.iter().zip(PARAMETERS) {
+    for (at, parameter) in sheet.parameters.iter().enumerate() {
         let bytes = &mut variables[parameter.id as usize];
         let width = bytes.len();
         let mut cell = rng.next().to_le_bytes();
         mix_in_edge_value(rng, &mut cell[..width]);
-        registers[register] = u64::from_le_bytes(cell);
         bytes.copy_from_slice(&cell[..width]);
+        match PARAMETERS.get(at) {
+            Some(register) => registers[*register] = u64::from_le_bytes(cell),
+            None => region[stacked(below, at - PARAMETERS.len())].copy_from_slice(&cell),
+        }
     }
     let run = run(sheet, variables, MAX_STEPS);
     Entry { registers, shift: 16 * rng.below(256) as u64, below, region, run }
