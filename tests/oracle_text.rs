@@ -21,5 +21,6 @@ fn main() -> io::Result<()> {
     let mut input = String::new();
     io::stdin().read_to_string(&mut input)?;
     let lists: Vec<Vec<record::Record>> = input.lines().map(list).collect();
+    let lists: Vec<&[record::Record]> = lists.iter().map(Vec::as_slice).collect();
     io::stdout().write_all(asm::batch(&lists, false).as_bytes())
 }

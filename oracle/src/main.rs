@@ -36,10 +36,12 @@ const USAGE: &str = "usage: oracle answer < CELLS
        oracle show FILE [N]
        oracle held FILE
        oracle processor SEED COUNT
+       oracle calls SEED COUNT
        oracle runs SEED COUNT
 with the engine linked in:
        oracle compare SEED COUNT
        oracle engine-processor SEED COUNT
+       oracle engine-calls SEED COUNT
        oracle bench";
 
 fn main() -> ExitCode {
@@ -72,6 +74,10 @@ fn command(words: &[&str]) -> Result<(), String> {
             let summary = processor::test(number(seed)?, number(count)? as usize, lower::list)?;
             print(summary.as_bytes())
         }
+        ["calls", seed, count] => {
+            let (seed, count) = (number(seed)?, number(count)? as usize);
+            print(processor::calls::test(seed, count, lower::list)?.as_bytes())
+        }
         ["runs", seed, count] => {
             print(runs::lines(number(seed)?, number(count)? as usize).as_bytes())
         }
@@ -85,6 +91,9 @@ fn engine_command(words: &[&str]) -> Result<(), String> {
         ["compare", seed, count] => compare::test(number(seed)?, number(count)? as usize)?,
         ["engine-processor", seed, count] => {
             processor::test(number(seed)?, number(count)? as usize, engine::list)?
+        }
+        ["engine-calls", seed, count] => {
+            processor::calls::test(number(seed)?, number(count)? as usize, engine::list)?
         }
         ["bench"] => bench::table(),
         _ => return Err(USAGE.to_string()),

@@ -4,10 +4,14 @@ use std::fmt::Write;
 
 use krc::record::Record;
 
-const SIZED: [[&str; 16]; 3] = [
+const SIZED: [[&str; 16]; 4] = [
     [
         "al", "cl", "dl", "bl", "spl", "bpl", "sil", "dil", "r8b", "r9b", "r10b", "r11b", "r12b",
         "r13b", "r14b", "r15b",
+    ],
+    [
+        "ax", "cx", "dx", "bx", "sp", "bp", "si", "di", "r8w", "r9w", "r10w", "r11w", "r12w",
+        "r13w", "r14w", "r15w",
     ],
     [
         "eax", "ecx", "edx", "ebx", "esp", "ebp", "esi", "edi", "r8d", "r9d", "r10d", "r11d",
@@ -22,8 +26,9 @@ const SIZED: [[&str; 16]; 3] = [
 const CONDITIONS: [&str; 16] =
     ["e", "ne", "g", "ge", "l", "le", "a", "ae", "b", "be", "s", "ns", "o", "no", "p", "np"];
 
-/// The text of one batch: the functions and a table of their addresses.
-pub fn batch(lists: &[Vec<Record>], counting: bool) -> String {
+/// The text of one batch: the functions and a table of their addresses. Strings and floats of a
+/// function are named by its number and theirs, callees by their symbol's.
+pub fn batch(lists: &[&[Record]], counting: bool) -> String {
     let mut text = ".intel_syntax noprefix\n.text\n".to_string();
     for (number, list) in lists.iter().enumerate() {
         writeln!(text, ".p2align 4\nfunction_{number}:").expect("text grows");
@@ -55,11 +60,13 @@ fn instruction(function: usize, record: &Record) -> String {
     let to = operand(function, dst_tag, dst, size);
     let from = operand(function, src_tag, src, size);
     match (form, operation) {
+        (0, 11 | 12) => format!("movs{} {to}, {from}", if size == 4 { 's' } else { 'd' }),
         (0, _) => format!("{} {to}, {from}", binary(operation)),
         (4, 3) => format!("div {from}"),
         (4, 4) => format!("imul {to}, {from}"),
         (4, 5) => format!("idiv {from}"),
         (6, 0) => format!("jmp {to}"),
+        (6, 1) => format!("call {to}"),
         (6, 2) => "ret".to_string(),
         (6, 64..80) => format!("j{} {to}", CONDITIONS[operation as usize - 64]),
         (7, 1) => format!("movsxd {to}, {}", operand(function, src_tag, src, source_size)),
@@ -79,7 +86,7 @@ fn instruction(function: usize, record: &Record) -> String {
         (17, 1) => format!("not {to}"),
         (17, 5) => "cdq".to_string(),
         (17, 6) => "cqo".to_string(),
-        _ => panic!("a plain list holds no {record:?}"),
+        _ => panic!("these lists hold no {record:?}"),
     }
 }
 
@@ -92,7 +99,7 @@ fn binary(operation: i64) -> &'static str {
         7 => "or",
         8 => "xor",
         9 => "cmp",
-        other => panic!("a plain list holds no binary operation {other}"),
+        other => panic!("these lists hold no binary operation {other}"),
     }
 }
 
@@ -103,20 +110,26 @@ fn shift(operation: i64) -> &'static str {
 fn operand(function: usize, tag: i64, value: i64, size: i64) -> String {
     match tag {
         0 => String::new(),
+        1 if value >= 16 => format!("xmm{}", value - 16),
         1 => register(value, size).to_string(),
         2 => value.to_string(),
+        3 => format!("symbol{value}"),
         4 => format!(".L{function}_{value}"),
         5 => format!("{} ptr [rbp {value:+}]", pointer(size)),
-        other => panic!("a plain list holds no operand of tag {other}"),
+        6 => format!("[rip + string_{function}_{value}]"),
+        7 => format!("{} ptr [rip + float_{function}_{value}]", pointer(size)),
+        8 => format!("{} ptr [rsp {value:+}]", pointer(size)),
+        other => panic!("these lists hold no operand of tag {other}"),
     }
 }
 
 fn register(index: i64, size: i64) -> &'static str {
     let row = match size {
         1 => 0,
-        4 => 1,
-        8 => 2,
-        other => panic!("a plain list holds no size {other}"),
+        2 => 1,
+        4 => 2,
+        8 => 3,
+        other => panic!("these lists hold no size {other}"),
     };
     SIZED[row][index as usize]
 }
@@ -124,8 +137,9 @@ fn register(index: i64, size: i64) -> &'static str {
 fn pointer(size: i64) -> &'static str {
     match size {
         1 => "byte",
+        2 => "word",
         4 => "dword",
         8 => "qword",
-        other => panic!("a plain list holds no size {other}"),
+        other => panic!("these lists hold no size {other}"),
     }
 }

@@ -3,6 +3,7 @@
 
 mod asm;
 mod batch;
+pub mod calls;
 pub mod trial;
 
 use crate::rng::Rng;

@@ -14,7 +14,15 @@ enum { STACK = 4 << 20, GUARD = 64 << 10 };
 
 // RAX, RCX, RDX, RBX, RSP, RBP, RSI, RDI, R8 to R15, then the flags.
 uint64_t machine[17];
+// The low eight bytes of XMM0 to XMM7.
+uint64_t floats[8];
 uint64_t host_stack, entry_point;
+
+// For callees in C (callees.h): what the next of them is to find, B, the calls so far, and the first difference.
+enum { LONGEST_SCRIPT = 1 << 16 };
+static uint64_t script_words[LONGEST_SCRIPT];
+const uint64_t *script;
+uint64_t stack_base, calls, difference[4];
 
 // The functions of this batch, in order.
 extern const uint64_t functions[];
@@ -27,13 +35,17 @@ struct request {
     uint64_t shift;  // moves B down, a multiple of 16
     uint64_t below;  // bytes of the region below B
     uint64_t above;  // bytes of the region from B on
+    uint64_t script; // words for the callees, behind the region
     uint64_t machine[17];
+    uint64_t floats[8];
 };
 
 struct result {
     uint64_t signal;  // 0 when the function returned
     uint64_t address; // of the instruction that raised it, from the function's start
     uint64_t base;    // B
+    uint64_t calls;   // of callees in C
+    uint64_t difference[4];
     uint64_t machine[17];
 };
 
@@ -57,6 +69,14 @@ __asm__(
     "  mov [rip + host_stack], rsp\n"
     "  push qword ptr [rip + machine + 128]\n"
     "  popfq\n"
+    "  movsd xmm0, [rip + floats]\n"
+    "  movsd xmm1, [rip + floats + 8]\n"
+    "  movsd xmm2, [rip + floats + 16]\n"
+    "  movsd xmm3, [rip + floats + 24]\n"
+    "  movsd xmm4, [rip + floats + 32]\n"
+    "  movsd xmm5, [rip + floats + 40]\n"
+    "  movsd xmm6, [rip + floats + 48]\n"
+    "  movsd xmm7, [rip + floats + 56]\n"
     "  mov rax, [rip + machine]\n"
     "  mov rcx, [rip + machine + 8]\n"
     "  mov rdx, [rip + machine + 16]\n"
@@ -124,6 +144,11 @@ static void set_timer(void) {
 
 static void run(const struct request *request, uint64_t base, struct result *result) {
     memcpy(machine, request->machine, sizeof machine);
+    memcpy(floats, request->floats, sizeof floats);
+    memset(difference, 0, sizeof difference);
+    script = script_words;
+    stack_base = base;
+    calls = 0;
     machine[4] = base + 8;
     uint64_t back = (uint64_t)leave_function;
     memcpy((void *)(base + 8), &back, sizeof back);
@@ -135,6 +160,8 @@ static void run(const struct request *request, uint64_t base, struct result *res
     result->signal = signal_number;
     result->address = signal_address - entry_point;
     result->base = base;
+    result->calls = calls;
+    memcpy(result->difference, difference, sizeof difference);
     memcpy(result->machine, machine, sizeof machine);
 }
 
@@ -149,7 +176,8 @@ int main(void) {
         uint64_t base = (uint64_t)stack + STACK - GUARD - request.shift;
         uint8_t *region = (uint8_t *)(base - request.below);
         size_t length = request.below + request.above;
-        if (fread(region, 1, length, stdin) != length) return 3;
+        if (fread(region, 1, length, stdin) != length || request.script > LONGEST_SCRIPT) return 3;
+        if (fread(script_words, sizeof *script_words, request.script, stdin) != request.script) return 3;
         struct result result;
         run(&request, base, &result);
         fwrite(&result, sizeof result, 1, stdout);
