@@ -21,12 +21,13 @@ struct Totals {
     plain: u64,
 }
 
-/// The fixed list and `count` random cases; an error tells the first difference.
+/// The fixed list, the largest bodies and `count` random cases; an error tells the first difference.
 pub fn test(seed: u64, count: usize) -> Result<String, String> {
     let mut rng = Rng::new(seed);
     let mut old = OldBytes::new(&mut rng);
     let mut totals = Totals::default();
-    for case in list::cases().into_iter().chain(cases::random(seed, count)) {
+    let listed = list::cases().into_iter().chain(cases::limits::largest());
+    for case in listed.chain(cases::random(seed, count)) {
         compare(&case, &mut rng, &mut old).map_err(|difference| format!("{difference}\n{case}"))?;
         totals.add(&case);
     }

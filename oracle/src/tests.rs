@@ -489,6 +489,16 @@ fn both_classes_in_one_sequence() {
 }
 
 #[test]
+fn the_largest_bodies() {
+    // Sub, 58 loads and stores, 6 register arguments, the number of floats, Call, Add, dest
+    let records = 6 + 4_096 * (1 + 2 * 58 + 6 + 4);
+    let [full, tight, refused] = &limits::largest()[..] else { panic!("three cases") };
+    assert_eq!(full.result.as_ref().map(Vec::len), Ok(records));
+    assert_eq!(tight.result, Err(Refusal { number: 9, place: records as u64 }));
+    assert_eq!(refused.result, Err(Refusal { number: 7, place: 4_096 }));
+}
+
+#[test]
 fn parameters_beyond_the_registers() {
     let six = vec![own(LONG); 6];
     let lower = |excess: Vec<Variable>| {

@@ -43,7 +43,7 @@ fn counts() -> Vec<Input> {
             all.push(sheet_input(&Sheet { labels: count as i64, body, ..Sheet::default() }));
         }
     }
-    for count in [0, 1, 4_095, 4_096] {
+    for count in [0, 1, 4_096] {
         all.push(sheet_input(&Sheet { body: vec![Instr::Comment; count], ..Sheet::default() }));
     }
     let jumps = vec![Instr::Jump(0); 1_025];
@@ -221,7 +221,26 @@ fn arguments() -> Vec<Input> {
     all
 }
 
-/// Parameters: registers taken, and the excess that is not looked at.
+/// As many calls as a body holds, each with as many arguments as a call takes: with room for the
+/// records, with a byte too few, and with a refusal on the last argument. Too large for the list.
+#[cfg(any(test, feature = "engine"))]
+pub fn largest() -> Vec<Case> {
+    let sheet = Sheet { variables: vec![Type::scalar(LONG)], ..Sheet::default() };
+    let var = sheet.variable(0);
+    let args = vec![Operand::Var(var); MAX_ARGUMENTS as usize];
+    let call = Instr::Call { dest: Some(var), symbol: 0, args };
+    let body = vec![call; MAX_INSTRUCTIONS as usize];
+    let full = sheet_input(&Sheet { body: body.clone(), ..sheet.clone() }).with_exact_room();
+    let tight =
+        Case::answered(full.tables.clone(), full.sheet.clone(), full.out_len.saturating_sub(1));
+    let mut refused = body;
+    let Some(Instr::Call { args, .. }) = refused.last_mut() else { unreachable!("a call") };
+    *args.last_mut().expect("an argument") = Operand::Address(var);
+    let refused = sheet_input(&Sheet { body: refused, ..sheet }).with_exact_room();
+    vec![full, tight, refused]
+}
+
+/// Parameters: registers taken, and those beyond them.
 fn parameters() -> Vec<Input> {
     let variables: Vec<Type> =
         [vec![Type::scalar(SHORT); 8], vec![Type::scalar(FLOAT); 10]].concat();

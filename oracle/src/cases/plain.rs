@@ -25,10 +25,11 @@ pub fn draft(rng: &mut Rng) -> Draft {
 }
 
 fn head(rng: &mut Rng) -> Sheet {
-    // a quarter has parameters beyond the six registers
-    let many = rng.chance(1, 4);
+    // a fifth has parameters beyond the six registers
+    let many = rng.chance(1, 5);
     let count = match (many, rng.chance(1, 40)) {
-        (true, _) => rng.between(8, 48),
+        (true, _) if rng.chance(1, 4) => rng.between(20, 48),
+        (true, _) => rng.between(8, 20),
         (_, true) => 0,
         _ => rng.between(1, 14),
     };

@@ -124,18 +124,16 @@ impl Split {
         Sheet { variables: variables.clone(), body, ..Sheet::default() }
     }
 
-    /// The load of each argument beyond the registers, call after call.
-    fn loads(&self, tables: &Tables, without: Lowering) -> Result<Vec<Record>, Refusal> {
-        let of =
-            |call: &Call| call.excess.iter().map(|arg| (call.number, *arg)).collect::<Vec<_>>();
-        let all: Vec<(u64, Operand)> = self.calls.iter().flat_map(of).collect();
-        let returns = self.with_body(all.iter().map(|(_, arg)| Instr::Return(*arg)).collect());
-        let list = without(tables, &returns).map_err(|refusal| {
-            let (place, _) = all[refusal.place as usize - 1];
-            Refusal { place, ..refusal }
-        })?;
-        let firsts = list[PROLOGUE..].iter().step_by(RETURN);
-        Ok(firsts.take(returns.body.len()).copied().collect())
+    /// The loads of each call's arguments beyond the registers.
+    fn loads(&self, tables: &Tables, without: Lowering) -> Result<Vec<Vec<Record>>, Refusal> {
+        let of = |call: &Call| {
+            let returns = self.with_body(call.excess.iter().copied().map(Instr::Return).collect());
+            let list = without(tables, &returns)
+                .map_err(|refusal| Refusal { place: call.number, ..refusal })?;
+            let firsts = list[PROLOGUE..].iter().step_by(RETURN);
+            Ok(firsts.take(call.excess.len()).copied().collect())
+        };
+        self.calls.iter().map(of).collect()
     }
 
     /// The store of each parameter beyond the registers.
@@ -148,16 +146,15 @@ impl Split {
     }
 
     /// The list: what was taken out stands behind the prologue's register stores and around the calls.
-    fn joined(&self, kept: &[Record], stores: Vec<Record>, loads: Vec<Record>) -> Vec<Record> {
+    fn joined(&self, kept: &[Record], stores: Vec<Record>, loads: Vec<Vec<Record>>) -> Vec<Record> {
         let (prologue, mut rest) = kept.split_at(PROLOGUE + self.kept.parameters.len());
         let mut list = prologue.to_vec();
         list.extend((0..).zip(stores).flat_map(|(j, store)| received(j, store)));
-        let mut loads = loads.into_iter();
-        for call in &self.calls {
+        for (call, loads) in self.calls.iter().zip(loads) {
             let at = rest.iter().position(|record| record[..2] == CALL).expect("a call's record");
             let (before, block) = rest[..=at].split_at(at - 1 - call.registers);
             list.extend(before);
-            list.extend(called(block, loads.by_ref().take(call.excess.len()).collect()));
+            list.extend(called(block, loads));
             rest = &rest[at + 1..];
         }
         list.extend(rest);
