@@ -5,8 +5,8 @@
 
 #include "gilthoren.h"
 
-static const char *const words[] = {"accepted",  "bad table", "torn sheet",  "oversize",        "no width",
-                                    "no entry", "odd width", "no lowering", "registers spent", "page full"};
+static const char *const words[] = {"accepted", "bad table", "torn sheet",  "oversize", "no width",
+                                    "no entry", "odd width", "no lowering", "reserved", "page full"};
 
 /* Cells as bytes, little-endian. */
 static size_t put_cells(uint8_t *out, const int64_t *cells, size_t n) {

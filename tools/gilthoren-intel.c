@@ -98,11 +98,16 @@ static int refused(struct listing *l, uint64_t number, uint64_t place) {
     return 0;
 }
 
+/* 8 is reserved and never answered. */
+static bool is_refusal(int64_t number) {
+    return number >= 1 && number <= 9 && number != 8;
+}
+
 static int show(struct listing *l) {
     int64_t value[2];
     bool has_line = next_line(l);
     if (has_line && strncmp(l->line, "ok ", 3) == 0 && numbers(l->line + 3, value, 1) && value[0] >= 0) return accepted(l, value[0]);
-    if (has_line && strncmp(l->line, "refused ", 8) == 0 && numbers(l->line + 8, value, 2) && value[0] >= 1 && value[0] <= 9 && value[1] >= 0)
+    if (has_line && strncmp(l->line, "refused ", 8) == 0 && numbers(l->line + 8, value, 2) && is_refusal(value[0]) && value[1] >= 0)
         return refused(l, (uint64_t)value[0], (uint64_t)value[1]);
     if (has_line && strcmp(l->line, "too long") == 0) {
         bytes_print(&l->text, "too long: the input has more than 65536 bytes\n");

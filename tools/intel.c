@@ -16,7 +16,7 @@ enum form {
     FORM_UNARY = 17
 };
 
-enum tag { TAG_NONE, TAG_REGISTER, TAG_IMMEDIATE, TAG_SYMBOL, TAG_LABEL, TAG_RBP, TAG_STRING, TAG_FLOAT };
+enum tag { TAG_NONE, TAG_REGISTER, TAG_IMMEDIATE, TAG_SYMBOL, TAG_LABEL, TAG_RBP, TAG_STRING, TAG_FLOAT, TAG_RSP };
 
 enum { GPRS = 16, XMMS = 8, CONDITIONS = 16, JMP_CC = 64, REP_STOS = 20 };
 
@@ -74,19 +74,20 @@ static void put_label(const struct print *p, int64_t label) {
     else bytes_print(p->text, ".L%lld", (long long)label);
 }
 
-static void put_rbp(const struct print *p, int64_t value) {
-    bytes_print(p->text, value < 0 ? "[rbp - %llu]" : "[rbp + %llu]", value < 0 ? -(unsigned long long)value : (unsigned long long)value);
+static void put_based(const struct print *p, const char *base, int64_t value) {
+    bytes_print(p->text, "[%s %c %llu]", base, value < 0 ? '-' : '+', value < 0 ? -(unsigned long long)value : (unsigned long long)value);
 }
 
 /* The address alone, as Lea takes it. */
 static void put_address(const struct print *p, int64_t tag, int64_t value) {
-    if (tag == TAG_RBP) put_rbp(p, value);
+    if (tag == TAG_RBP) put_based(p, "rbp", value);
+    if (tag == TAG_RSP) put_based(p, "rsp", value);
     if (tag == TAG_STRING) bytes_print(p->text, "[rip + string%lld]", (long long)value);
     if (tag == TAG_FLOAT) bytes_print(p->text, "[rip + float%lld]", (long long)value);
 }
 
 static bool is_memory(int64_t tag) {
-    return tag == TAG_RBP || tag == TAG_STRING || tag == TAG_FLOAT;
+    return tag == TAG_RBP || tag == TAG_STRING || tag == TAG_FLOAT || tag == TAG_RSP;
 }
 
 static void put_operand(const struct print *p, int64_t tag, int64_t value, int64_t size) {
@@ -245,7 +246,8 @@ static bool is_operand(int64_t tag, int64_t value) {
     case TAG_SYMBOL:
     case TAG_LABEL:
     case TAG_STRING:
-    case TAG_FLOAT: return value >= 0;
+    case TAG_FLOAT:
+    case TAG_RSP: return value >= 0;
     default: return false;
     }
 }
@@ -264,7 +266,7 @@ static struct shape shape_of(const struct record *r) {
     const unsigned reg = BIT(TAG_REGISTER);
     bool divides = r->operation == DIV || r->operation == IDIV;
     switch (r->form) {
-    case FORM_BINARY: return (struct shape){reg | BIT(TAG_RBP), VALUE};
+    case FORM_BINARY: return (struct shape){reg | BIT(TAG_RBP) | BIT(TAG_RSP), VALUE};
     case FORM_COMPLEX_BINARY: return (struct shape){divides ? ONE : reg, reg};
     case FORM_CONVERT: return (struct shape){reg, VALUE};
     case FORM_CTRL: return (struct shape){r->operation == 2 ? ONE : r->operation == 1 ? BIT(TAG_SYMBOL) : BIT(TAG_LABEL), ONE};

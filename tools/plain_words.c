@@ -189,7 +189,6 @@ static const char *head_words(const uint8_t *sheet) {
     for (size_t cell = SHEET_HEAD; cell < first; cell += 2)
         if (!is_plain_code(cell_at(sheet, cell))) return NO_PLAIN_CODE;
     const char *words = return_words(sheet);
-    if (!words && end - first > 3 * 6) words = "there are more than six parameters";
     for (size_t cell = first; !words && cell < end; cell += 3) words = parameter_words(sheet, first, cell);
     return words;
 }

@@ -17,7 +17,7 @@ static const struct refusal refusals[10] = {
     {"no entry", "a variable, label, string or float lies beyond its table"},
     {"odd width", "a size other than 1, 2, 4 or 8 is moved at once"},
     {"no lowering", "Krc has no lowering for it"},
-    {"registers spent", "a seventh non-float or ninth float argument has no register"},
+    {"reserved", "no call answers this number"},
     {"page full", "there is no room for all records"},
 };
 
