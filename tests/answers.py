@@ -47,11 +47,11 @@ def equations(case, line):
 
 
 def asked_faults(case):
-    """0, the first instructions, and a number behind the last of a short body; of a sheet that is refused 4 to 8 none behind the refusal's place."""
+    """0, the first instructions, and a number behind the last of a short body; of a sheet that is refused 4 to 7 none behind the refusal's place."""
     if case.number in (1, 2, 3):
         return [0, 1]
     instructions = int.from_bytes(case.sheet[40:48], "little")
-    last = case.place if case.number in (4, 5, 6, 7, 8) else instructions + 1
+    last = case.place if case.number in (4, 5, 6, 7) else instructions + 1
     return list(range(min(last, 7) + 1))
 
 

@@ -1,14 +1,15 @@
 """Equations that the definitions run plain functions on concrete bytes as vectors/runs.txt says (vectors/README.md has its form).
 
 Each run gives two: after its steps F has its end and its variables' bytes; after 12 + 5 times as many records of the list that the definitions lower
-F to, the machine has the end that belongs to it, the value, the slots, RSP, the kept registers, the saved RBP and, around the frame, the bytes that
-were there.
+F to, and two more for each parameter on the stack, the machine has the end that belongs to it, the value, the slots, RSP, the kept registers, the saved RBP
+and, around the frame and where the parameters are, the bytes that were there.
 """
 from scratch import ROOT, numbers, unfolding
 
 WORD = 1 << 64
 RSP = 65544
 BASE = RSP - 8
+STACKED = BASE + 16
 AROUND = 7
 TABLES = [0] * 8
 
@@ -29,15 +30,16 @@ abbrev listOf : Outcome (List Instruction) → List Instruction
 listOf (accepted is) = is
 listOf (refused n p) = []
 
--- the frame's bytes below the base, and the same byte around it
-abbrev memory : ℕ → List ℕ → ℕ → ℕ
-memory frame bytes a = cond (leb (BASE - frame) a && ltb a BASE) (getD bytes (a - (BASE - frame)) AROUND) AROUND
+-- the frame's bytes below the base, those of the parameters on the stack above it, and the same byte around them
+abbrev memory : ℕ → List ℕ → List ℕ → ℕ → ℕ
+memory frame bytes stacked a =
+    cond (leb (BASE - frame) a && ltb a BASE) (getD bytes (a - (BASE - frame)) AROUND) (cond (leb STACKED a) (getD stacked (a - STACKED) AROUND) AROUND)
 
-abbrev entry : List ℕ → ℕ → List ℕ → x86.State
-entry regs frame bytes =
+abbrev entry : List ℕ → ℕ → List ℕ → List ℕ → x86.State
+entry regs frame bytes stacked =
     record {
       regs = getD′ regs;
-      mem = memory frame bytes;
+      mem = memory frame bytes stacked;
       flags = record { zf = true; sf = false; cf = true; pf = false; ov = true; df = false };
       links = λ b k. 0;
       pos = 0;
@@ -100,7 +102,7 @@ class Run:
             del numbers[:n]
             return taken
 
-        self.cells, self.registers, self.frame = counted(), counted(), counted()
+        self.cells, self.registers, self.frame, self.stacked = counted(), counted(), counted(), counted()
         self.end, self.steps, self.width, self.value = [numbers.pop(0) for _ in range(4)]
         self.variables = counted()
         if numbers:
@@ -118,7 +120,7 @@ class Run:
         return [width * (1 if count == -1 else count) for width, count in zip(self.widths(), counts)]
 
     def memory_after(self):
-        """From eight bytes below the frame to 24 above its end: the slots, the saved RBP, everything else as it was."""
+        """From eight bytes below the frame to eight above the parameters on the stack: the slots, the saved RBP, everything else as it was."""
         bytes_, at, offset = bytearray(self.frame), 0, 0
         for width, size in zip(self.widths(), self.sizes()):
             offset = -(-(offset + size) // width) * width
@@ -126,13 +128,15 @@ class Run:
             bytes_[start:start + size] = self.variables[at:at + size]
             at += size
         saved = self.registers[5].to_bytes(8, "little")
-        return [AROUND] * 8 + list(bytes_) + list(saved) + [AROUND] * 16
+        return [AROUND] * 8 + list(bytes_) + list(saved) + [AROUND] * 8 + self.stacked + [AROUND] * 8
 
 
 def equations(k, run, line):
     sheet = numbers(b"".join((c % WORD).to_bytes(8, "little") for c in run.cells))
     frame = len(run.frame)
-    state = f"(entry ({numbers(run.registers)}) {frame} ({numbers(run.frame)}))"
+    state = f"(entry ({numbers(run.registers)}) {frame} ({numbers(run.frame)}) ({numbers(run.stacked)}))"
+    records = 12 + 2 * (len(run.stacked) // 8) + 5 * run.steps
+    span = frame + 32 + len(run.stacked)
     asked = [(x, i) for x, size in enumerate(run.sizes()) for i in range(size)]
     pairs = "".join(f"({x} ∷ {i} ∷ []) ∷ " for x, i in asked) + "[]"
     end = [2, 0, 0] if run.end == 2 else [1, run.width, run.value]
@@ -143,7 +147,7 @@ def equations(k, run, line):
     bp, sp = (BASE, BASE - frame) if run.end == 2 else (run.registers[5], RSP + 8)
     end = [2] if run.end == 2 else [1, int.from_bytes([AROUND] * 8, "little")]
     after = end + [run.registers[r] for r in kept] + [bp, sp, run.value] + run.memory_after()
-    yield f"ran{k} : _≡_ {{A = List ℕ}} (ran ({sheet}) {state} {12 + 5 * run.steps} {run.width} {BASE - frame - 8} {frame + 32}) ({numbers(after)})"
+    yield f"ran{k} : _≡_ {{A = List ℕ}} (ran ({sheet}) {state} {records} {run.width} {BASE - frame - 8} {span}) ({numbers(after)})"
     yield line
     yield f"ran{k} = refl\n"
 
@@ -152,7 +156,7 @@ def modules(count, jobs):
     """The equations of the first `count` runs, as `jobs` modules, and what they are about."""
     runs = [Run(l) for l in (ROOT / "vectors/runs.txt").read_text().splitlines()][:count]
     uses, line = unfolding(["x86", "steps"])
-    header = HEADER.replace("BASE", str(BASE)).replace("AROUND", str(AROUND)).replace("TABLES", numbers(TABLES)) % uses
+    header = HEADER.replace("STACKED", str(STACKED)).replace("BASE", str(BASE)).replace("AROUND", str(AROUND)).replace("TABLES", numbers(TABLES)) % uses
     some = list(enumerate(runs))
     texts = {f"runs{k}": header + "\n".join(l for n, run in some[k::jobs] for l in equations(n, run, line)) for k in range(jobs)}
     ends = [sum(1 for run in runs if run.end == e) for e in (0, 1, 2)]

@@ -95,7 +95,7 @@ static uint64_t lower(const struct lent *t, const struct lent *s, const struct l
 
 /* Numbers and places that 01 allows, and the record bytes that the answer allows to be written. */
 static void check_answer(uint64_t answer, uint64_t place, const struct lent *t, const struct lent *s, const struct lent *r) {
-    must(answer <= 9, "the number");
+    must(answer <= 9 && answer != 8, "the number");
     must(answer != 1 || place <= t->length / 8, "the tables' cell");
     must((answer != 2 && answer != 3) || place <= s->length / 8, "the sheet's cell");
     must(answer < 4 || answer > 8 || place <= 4096, "the instruction");
