@@ -34,5 +34,6 @@ pub fn apply(tables: &Tables, sheet: &Sheet, list: &mut Vec<Record>) {
 /// names it. Of an entry Krc asks nothing but its size, for offsets and frame.
 fn named(tables: &Tables, sheet: &Sheet) -> Vec<Record> {
     let variables = vec![Type::scalar(BYTE); sheet.variables.len()];
-    krc_list(tables, &Sheet { variables, ..sheet.clone() }).expect("no instruction asks for an entry")
+    krc_list(tables, &Sheet { variables, ..sheet.clone() })
+        .expect("no instruction asks for an entry")
 }
