@@ -55,15 +55,18 @@ fn without_excess(tables: &Tables, sheet: &Sheet) -> Result<Vec<Record>, Refusal
     Ok(list)
 }
 
-/// The requests whose rules alter Krc's answer; none where Krc refuses.
+/// The requests whose rules alter Krc's answer; none where Krc refuses. Where there is excess the other rules are asked of the function without it.
 pub fn held(tables: &[u8], sheet: &[u8], out_len: u64) -> Vec<&'static str> {
     let (Ok(tables), Ok(sheet)) = (read_tables(tables), read_sheet(sheet)) else {
         return Vec::new();
     };
-    let Ok(krc) = krc_list(&tables, &sheet) else { return Vec::new() };
+    let without = rules::excess::without(&sheet);
+    let kept = without.as_ref().unwrap_or(&sheet);
+    let Ok(krc) = krc_list(&tables, kept) else { return Vec::new() };
     let answer = fit(krc.clone(), out_len);
-    let altered = rules::alone(&tables, &sheet, &krc);
-    altered.filter(|(_, list)| fit(list.clone(), out_len) != answer).map(|(name, _)| name).collect()
+    let altered = rules::alone(&tables, kept, &krc);
+    let altered = altered.filter(|(_, list)| fit(list.clone(), out_len) != answer);
+    altered.map(|(name, _)| name).chain(without.as_ref().map(|_| "M-112")).collect()
 }
 
 /// Krc's own list, or refusals 4 to 7 with their place.

@@ -8,6 +8,7 @@ use crate::lower::{answer, krc_list, lower};
 use crate::plain::faults;
 use crate::read::{Refusal, read_sheet, read_tables};
 use crate::rng::Rng;
+use crate::rules::{self, excess};
 use crate::sheet::*;
 use crate::steps::{End, run};
 use crate::{list, steps};
@@ -146,21 +147,23 @@ fn case_6_last_offset() {
     assert_eq!(answered(vec![bytes, empty, custom]), Err(Refusal { number: 4, place: 0 }));
 }
 
-/// Of Krc's own list the rules set displacements, the frame and the size of a short float, and no other cell.
+/// Of Krc's own list M-110's rule sets displacements and the frame, and no other cell.
 #[test]
 fn all_other_cells_are_krcs() {
     let mut rng = Rng::new(9);
     for _ in 0..500 {
         let Draft { tables, sheet } = any::draft(&mut rng);
-        let (Ok(own), Ok(ruled)) = (krc_list(&tables, &sheet), lower(&tables, &sheet)) else {
+        if excess::without(&sheet).is_some() {
             continue;
-        };
+        }
+        let Ok(own) = krc_list(&tables, &sheet) else { continue };
+        let mut alone = rules::alone(&tables, &sheet, &own);
+        let (_, ruled) = alone.find(|(request, _)| *request == "M-110").expect("a rule for slots");
         assert_eq!(own.len(), ruled.len());
         for (k, (own, ruled)) in own.iter().zip(&ruled).enumerate() {
             let is_set = |cell: usize| match cell {
                 3 => own[2] == RBP_PLUS,
                 5 => own[4] == RBP_PLUS || k == 2,
-                6 => own[4] == 7,
                 _ => false,
             };
             for cell in 0..8 {
@@ -449,7 +452,7 @@ fn calls_with_excess() {
         [8, 0, 1, 0, 6, 0, 0, 0],
         [0, 0, 1, 0, 5, -36, 4, 0],
         [0, 0, 1, 0, 2, 1, 4, 0],
-        [0, 0, 1, 0, 5, -52, 8, 0],
+        [0, 0, 1, 0, 5, -53, 8, 0],
         [0, 0, 1, 0, 5, -8, 0, 0],
         [0, 0, 1, 0, 2, 5, 4, 0],
         [0, 0, 1, 0, 7, 0, 8, 0],
@@ -518,7 +521,7 @@ fn parameters_beyond_the_registers() {
             [0, 0, 1, 0, 5, 24, 4, 0],
             [0, 0, 5, -20, 1, 0, 4, 0],
             [0, 0, 1, 0, 5, 32, 2, 0],
-            [0, 0, 5, -49, 1, 0, 2, 0],
+            [0, 0, 5, -50, 1, 0, 2, 0],
         ]
     );
     // a ninth float goes through RAX too

@@ -60,6 +60,12 @@ pub fn lower(tables: &Tables, sheet: &Sheet, without: Lowering) -> Result<Vec<Re
     }
 }
 
+/// The function without its excess, if it has any.
+pub fn without(sheet: &Sheet) -> Option<Sheet> {
+    let split = Split::of(sheet);
+    split.has_excess().then_some(split.kept)
+}
+
 /// The class by the own type; an array of floats is no float.
 fn is_float(ty: Type) -> bool {
     ty == Type::scalar(FLOAT) || ty == Type::scalar(SHORT_FLOAT)

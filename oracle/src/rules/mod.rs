@@ -13,11 +13,8 @@ use krc::record::Record;
 type Rule = fn(&Tables, &Sheet, &mut Vec<Record>);
 
 /// In the order in which they are applied: the one for slots goes record by record beside Krc's own list.
-const RULES: [(&str, Rule); 3] = [
-    ("M-110", slots::apply),
-    ("M-102", short_floats::apply),
-    ("M-105", unsigned_shorts::apply),
-];
+const RULES: [(&str, Rule); 3] =
+    [("M-110", slots::apply), ("M-102", short_floats::apply), ("M-105", unsigned_shorts::apply)];
 
 pub fn apply(tables: &Tables, sheet: &Sheet, list: &mut Vec<Record>) {
     for (_, rule) in RULES {
