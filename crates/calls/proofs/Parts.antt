@@ -14,15 +14,14 @@ use Rattle.ir.specs.declared.Operand.{Operand as IrOp}
 use Rattle.ir.specs.declared.VarId.{VarId}
 use Rattle.ir.specs.declared.Dest.{Dest}
 use Rattle.ir.specs.Types.{Result, ok, refused, _>>=_, isFloat}
-use Rattle.x86.specs.declared.enums.Size.{Size}
-use Rattle.x86.specs.declared.enums.Operand.{Operand}
 use Rattle.codegen.specs.Context.{Context}
-use Rattle.codegen.specs.Utils.{varSize, convertVar}
 use Rattle.codegen.specs.Instructions.{floating, storeResult}
 use Rattle.utils.specs.Makes.{Ready, listed}
+use Rattle.utils.specs.declared.slots.Slot.{Slot}
+use Rattle.utils.specs.Slots.{lookSlot}
+use Rattle.utils.proofs.Looked.{slot-looked}
 use Rattle.utils.proofs.Made.{has-room}
-use Rattle.calls.specs.declared.Kept.{Kept}
-use Rattle.calls.specs.Calls.{isFloatConstant, callSymbol, callOf, lookResult, resultOf, keptOf}
+use Rattle.calls.specs.Calls.{isFloatConstant, callSymbol, callOf, resultOf, keptOf}
 
 -- ---- what the `else` of a pattern leaves
 
@@ -59,17 +58,14 @@ has-rank {m} {k} {n} e h = lt-ltb k n (omega arith)
 
 -- ---- the call and the store of a result that is kept
 
-pub kept-looked : (ctx : Context) (v : VarId) (symbol : ℕ) → callSymbol ctx (Dest.Var v) symbol ≡ listed (lookResult ctx v) (keptOf (isFloat (v .ty)) symbol)
+pub kept-looked : (ctx : Context) (v : VarId) (symbol : ℕ) → callSymbol ctx (Dest.Var v) symbol ≡ listed (lookSlot ctx v) (keptOf (isFloat (v .ty)) symbol)
 unfolding callSymbol storeResult
-kept-looked ctx v symbol = go (convertVar ctx v) (varSize v)
+kept-looked ctx v symbol = rw (slot-looked ctx v (λ t. resultOf (isFloat (v .ty)) t ∷ [])) (go (lookSlot ctx v))
   where
-    go : (a : Result Operand) (b : Result Size) →
-        ((a >>= λ var. b >>= λ size. ok (resultOf (isFloat (v .ty)) (record { var = var; size = size }) ∷ [])) >>= λ store. ok (callOf symbol ∷ store))
-        ≡ listed (a >>= λ var. b >>= λ size. ok (record { var = var; size = size })) (keptOf (isFloat (v .ty)) symbol)
-    go (ok var) (ok size) = refl
-    go (ok var) (refused n) = refl
-    go (refused n) b = refl
+    go : (r : Result Slot) → (listed r (λ t. resultOf (isFloat (v .ty)) t ∷ []) >>= λ store. ok (callOf symbol ∷ store)) ≡ listed r (keptOf (isFloat (v .ty)) symbol)
+    go (ok t) = refl
+    go (refused n) = refl
 
-pub kept-room : (ctx : Context) (v : VarId) (symbol : ℕ) {t : Kept} {writes : Bool} {at n : ℕ} → lookResult ctx v ≡ ok t
+pub kept-room : (ctx : Context) (v : VarId) (symbol : ℕ) {t : Slot} {writes : Bool} {at n : ℕ} → lookSlot ctx v ≡ ok t
     → Ready writes (callSymbol ctx (Dest.Var v) symbol) at n → writes ≡ true → at + 128 ≤ n
 kept-room ctx v symbol e g w = has-room (keptOf (isFloat (v .ty)) symbol) (kept-looked ctx v symbol) e g w

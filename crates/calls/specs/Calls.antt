@@ -1,11 +1,10 @@
--- Auxiliary: the parts of a call; `generateCall` is the loads and `callSymbol` behind them, by `in-parts`, and `callSymbol` is made of what `lookResult` finds, by `kept-looked` (proofs/Parts).
+-- Auxiliary: the parts of a call; `generateCall` is the loads and `callSymbol` behind them, by `in-parts`, and `callSymbol` is made of what utils' `lookSlot` finds, by `kept-looked` (proofs/Parts).
 use Prim.Native.Nat.{ℕ}
 use mathlib.Core.Bool.{Bool, true, false, cond}
 use mathlib.Core.List.{List, [], _∷_}
-use Rattle.ir.specs.declared.VarId.{VarId}
 use Rattle.ir.specs.declared.Dest.{Dest}
 use Rattle.ir.specs.declared.Operand.{Operand as IrOp}
-use Rattle.ir.specs.Types.{Result, ok, refused, _>>=_}
+use Rattle.ir.specs.Types.{Result, ok, _>>=_}
 use Rattle.x86.specs.declared.enums.Size.{Size}
 use Rattle.x86.specs.declared.enums.BinOp.{BinOp}
 use Rattle.x86.specs.declared.enums.CtrlOp.{CtrlOp}
@@ -13,10 +12,8 @@ use Rattle.x86.specs.declared.enums.Operand.{Operand}
 use Rattle.x86.specs.declared.enums.Instruction.{Instruction}
 use Rattle.x86.specs.Registers.{xmm, RAX}
 use Rattle.codegen.specs.Context.{Context}
-use Rattle.codegen.specs.Utils.{varSize, convertVar}
 use Rattle.codegen.specs.Instructions.{move, storeResult}
-use Rattle.calls.specs.declared.Kept.{Kept}
-use Rattle.calls.specs.declared.KeptResult.{KeptResult}
+use Rattle.utils.specs.declared.slots.Slot.{Slot}
 
 -- whether an argument is a float constant
 abbrev pub isFloatConstant : IrOp → Bool
@@ -41,20 +38,10 @@ callSymbol ctx dest symbol = storeResult ctx dest >>= λ store. ok (callOf symbo
 
 -- ---- a result that is kept
 
-abbrev pub keptSays : KeptResult → Result Kept
-keptSays (KeptResult.Is t) = ok t
-keptSays (KeptResult.Refused n) = refused n
-
-abbrev pub lookResult : Context → VarId → Result Kept
-lookResult ctx v = do
-  var ← convertVar ctx v
-  size ← varSize v
-  ok (record { var = var; size = size })
-
 -- its store, from XMM0 or RAX
-abbrev pub resultOf : Bool → Kept → Instruction
+abbrev pub resultOf : Bool → Slot → Instruction
 resultOf float t = cond float (Instruction.Binary BinOp.StoreF (t .var) (Operand.Reg (xmm 0)) (t .size)) (move (t .var) (Operand.Reg RAX) (t .size))
 
 -- the call, and that store
-abbrev pub keptOf : Bool → ℕ → Kept → List Instruction
+abbrev pub keptOf : Bool → ℕ → Slot → List Instruction
 keptOf float symbol t = callOf symbol ∷ resultOf float t ∷ []

@@ -4,14 +4,13 @@ use ir::Operand as IrOp;
 use ir::VarId;
 use ir::read::operand_at;
 use utils::CountResult;
-use utils::OperandResult;
-use utils::SizeResult;
-use utils::convert_var;
 use utils::load_operand;
 use utils::mov;
 use utils::registers::param_register;
 use utils::registers::registers;
-use utils::var_size;
+use utils::slots::Slot;
+use utils::slots::SlotResult;
+use utils::slots::look_slot;
 use x86::enums::BinOp;
 use x86::enums::CtrlOp;
 use x86::enums::Instruction;
@@ -32,18 +31,7 @@ ghost use Rattle.codegen.specs.Frame.{registersOf};
 ghost use Rattle.codegen.specs.Instructions.{floating, loadArgument, loadArguments, generateCall};
 ghost use Rattle.utils.specs.Answers.{lent};
 ghost use Rattle.utils.specs.Makes.{alone, Makes, Ready};
-ghost use Rattle.calls.specs.Calls.{isFloatConstant, countFloats, callOf, keptSays, lookResult, resultOf, callSymbol};
-
-// The slot of a result, and its size.
-pub struct Kept {
-    pub var: Operand,
-    pub size: Size,
-}
-
-pub enum KeptResult {
-    Is(Kept),
-    Refused(u64),
-}
+ghost use Rattle.calls.specs.Calls.{isFloatConstant, countFloats, callOf, resultOf, callSymbol};
 
 fn is_float_constant(op: IrOp) -> bool
     ensures { λ r. ⌜ r ≡ isFloatConstant op ⌝ }
@@ -165,19 +153,6 @@ fn load_arguments(
     CountResult::Records(done + 1)
 }
 
-fn look_result(tables: &[u8], offsets: &[u64], v: VarId) -> KeptResult
-    ensures { λ r. ⌜ keptSays r ≡ lookResult (lent (now (tables .entry)) (now (offsets .entry))) v ⌝ }
-{
-    let var = match convert_var(tables, offsets, v) {
-        OperandResult::Is(var) => var,
-        OperandResult::Refused(n) => return KeptResult::Refused(n),
-    };
-    match var_size(v) {
-        SizeResult::Is(size) => KeptResult::Is(Kept { var, size }),
-        SizeResult::Refused(n) => KeptResult::Refused(n),
-    }
-}
-
 fn put_call(out: &mut [u8], at: usize, symbol: u64)
     requires { ⌜ at + 64 ≤ length (now out) ⌝ }
     ensures { λ _. ⌜ now (out .exit) ≡ write (now (out .entry)) at (recordBytes (recordOf (callOf symbol))) ⌝ }
@@ -193,7 +168,7 @@ fn put_call(out: &mut [u8], at: usize, symbol: u64)
 }
 
 // The result comes from XMM0 or RAX.
-fn put_result(out: &mut [u8], at: usize, t: Kept, float: bool)
+fn put_result(out: &mut [u8], at: usize, t: Slot, float: bool)
     requires { ⌜ at + 64 ≤ length (now out) ⌝ }
     ensures { λ _. ⌜ now (out .exit) ≡ write (now (out .entry)) at (recordBytes (recordOf (resultOf float t))) ⌝ }
 {
@@ -229,15 +204,15 @@ fn call_kept(
     ensures { λ r. ⌜ Makes write (callSymbol (lent (now (tables .entry)) (now (offsets .entry))) (Dest.Var v) symbol) at (now (out .entry)) (now (out .exit)) r ⌝ }
 {
     let ty = v.ty;
-    match look_result(tables, offsets, v) {
-        KeptResult::Is(t) => {
+    match look_slot(tables, offsets, v) {
+        SlotResult::Is(t) => {
             if write {
                 put_call(out, at, symbol);
                 put_result(out, at + 64, t, ty.is_float());
             }
             CountResult::Records(2)
         }
-        KeptResult::Refused(n) => CountResult::Refused(n),
+        SlotResult::Refused(n) => CountResult::Refused(n),
     }
 }
 

@@ -22,21 +22,17 @@ use Rattle.codegen.proofs.Results.{Yields, yields, any, bind, weaken, choose, n
 use Rattle.utils.specs.declared.CountResult.{CountResult}
 use Rattle.utils.specs.Answers.{counted}
 use Rattle.utils.specs.Makes.{listed, Makes, Ready, before, then}
+use Rattle.utils.specs.Slots.{lookSlot}
+use Rattle.utils.proofs.Looked.{slot-looked}
 use Rattle.utils.proofs.Made.{Going, begins, next-ready, next, stops, finishes}
-use Rattle.frame.specs.Stores.{lookParam, paramOf, storeOne, storeParam}
+use Rattle.frame.specs.Stores.{paramOf, storeOne, storeParam}
 
 -- ---- one parameter
 
 pub one-looked : (ctx : Context) (float : Bool) (k : ℕ) (p : VarId)
-    → storeOne ctx float k p ≡ listed (lookParam ctx p) (λ t. paramOf (storeOf float) (getD (registersOf float) k RAX) t ∷ [])
+    → storeOne ctx float k p ≡ listed (lookSlot ctx p) (λ t. paramOf (storeOf float) (getD (registersOf float) k RAX) t ∷ [])
 unfolding storeOne
-one-looked ctx float k p = go (convertVar ctx p) (varSize p)
-  where
-    go : (a : Result Operand) (b : Result Size) → (a >>= λ var. b >>= λ size. ok (Instruction.Binary (storeOf float) var (Operand.Reg (getD (registersOf float) k RAX)) size ∷ []))
-        ≡ listed (a >>= λ var. b >>= λ size. ok (record { var = var; size = size })) (λ t. paramOf (storeOf float) (getD (registersOf float) k RAX) t ∷ [])
-    go (ok var) (ok size) = refl
-    go (ok var) (refused n) = refl
-    go (refused n) b = refl
+one-looked ctx float k p = slot-looked ctx p (λ t. paramOf (storeOf float) (getD (registersOf float) k RAX) t ∷ [])
 
 -- by the tests of the code
 is-not : (b : Bool) → not b ≡ true → b ≡ false

@@ -5,7 +5,7 @@ use mathlib.Core.List.{List, [], _∷_}
 use lib.ListN.{length, getD}
 use lib.Dec.{ltb}
 use Rattle.ir.specs.declared.VarId.{VarId}
-use Rattle.ir.specs.Types.{Result, ok, refused, _>>=_, isFloat}
+use Rattle.ir.specs.Types.{Result, ok, _>>=_, isFloat}
 use Rattle.x86.specs.declared.register.Register.{Register}
 use Rattle.x86.specs.declared.enums.Size.{Size}
 use Rattle.x86.specs.declared.enums.BinOp.{BinOp}
@@ -17,8 +17,7 @@ use Rattle.codegen.specs.Context.{Context}
 use Rattle.codegen.specs.Utils.{varSize, convertVar}
 use Rattle.codegen.specs.Instructions.{move}
 use Rattle.codegen.specs.Frame.{registersOf, storeOf}
-use Rattle.frame.specs.declared.Param.{Param}
-use Rattle.frame.specs.declared.ParamResult.{ParamResult}
+use Rattle.utils.specs.declared.slots.Slot.{Slot}
 
 -- `push rbp ; mov rbp, rsp ; sub rsp, bytes`
 abbrev pub entering : ℕ → List Instruction
@@ -26,19 +25,9 @@ entering bytes =
     Instruction.Stack StackOp.Push (Operand.Reg RBP) Size.NoSize ∷ move (Operand.Reg RBP) (Operand.Reg RSP) Size.NoSize
     ∷ Instruction.Binary BinOp.Sub (Operand.Reg RSP) (Operand.Imm bytes) Size.NoSize ∷ []
 
--- ---- a parameter's store: what its look-ups find, and the record that is made of it
+-- ---- a parameter's store: the record that is made of what utils' `lookSlot` finds
 
-abbrev pub paramSays : ParamResult → Result Param
-paramSays (ParamResult.Is t) = ok t
-paramSays (ParamResult.Refused n) = refused n
-
-abbrev pub lookParam : Context → VarId → Result Param
-lookParam ctx p = do
-  var ← convertVar ctx p
-  size ← varSize p
-  ok (record { var = var; size = size })
-
-abbrev pub paramOf : BinOp → Register → Param → Instruction
+abbrev pub paramOf : BinOp → Register → Slot → Instruction
 paramOf op reg t = Instruction.Binary op (t .var) (Operand.Reg reg) (t .size)
 
 -- from the register of rank k into the parameter's slot

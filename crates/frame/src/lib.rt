@@ -10,12 +10,11 @@ use layout::Checked;
 use layout::parts::MOST_BYTES;
 use layout::parts::type_check;
 use utils::CountResult;
-use utils::OperandResult;
-use utils::SizeResult;
-use utils::convert_var;
 use utils::registers::param_register;
 use utils::registers::registers;
-use utils::var_size;
+use utils::slots::Slot;
+use utils::slots::SlotResult;
+use utils::slots::look_slot;
 use x86::enums::BinOp;
 use x86::enums::Instruction;
 use x86::enums::Operand;
@@ -37,7 +36,7 @@ ghost use Rattle.codegen.specs.Frame.{offsetsFrom, storeOf, storeParams, funcPr
 ghost use Rattle.utils.specs.Answers.{lent};
 ghost use Rattle.utils.specs.Makes.{Makes, Ready};
 ghost use Rattle.frame.specs.Sizes.{totalOf, sizesAt, typedOf, offsetsAfter};
-ghost use Rattle.frame.specs.Stores.{entering, paramSays, lookParam, paramOf, storeOne, storeParam};
+ghost use Rattle.frame.specs.Stores.{entering, paramOf, storeOne, storeParam};
 
 // What the variables' types come to: the last offset and the cursor behind them, or the first wrong cell.
 pub enum Typed {
@@ -118,37 +117,13 @@ fn both(a: bool, b: bool) -> bool
     if a { b } else { false }
 }
 
-// A parameter's slot and its size.
-pub struct Param {
-    pub var: Operand,
-    pub size: Size,
-}
-
-pub enum ParamResult {
-    Is(Param),
-    Refused(u64),
-}
-
-fn look_param(tables: &[u8], offsets: &[u64], p: VarId) -> ParamResult
-    ensures { λ r. ⌜ paramSays r ≡ lookParam (lent (now (tables .entry)) (now (offsets .entry))) p ⌝ }
-{
-    let var = match convert_var(tables, offsets, p) {
-        OperandResult::Is(var) => var,
-        OperandResult::Refused(n) => return ParamResult::Refused(n),
-    };
-    match var_size(p) {
-        SizeResult::Is(size) => ParamResult::Is(Param { var, size }),
-        SizeResult::Refused(n) => ParamResult::Refused(n),
-    }
-}
-
 fn store_op(float: bool) -> BinOp
     ensures { λ r. ⌜ r ≡ storeOf float ⌝ }
 {
     if float { BinOp::StoreF } else { BinOp::Mov }
 }
 
-fn put_param(out: &mut [u8], at: usize, t: Param, op: BinOp, reg: Register)
+fn put_param(out: &mut [u8], at: usize, t: Slot, op: BinOp, reg: Register)
     requires { ⌜ at + 64 ≤ length (now out) ⌝ }
     ensures { λ _. ⌜ now (out .exit) ≡ write (now (out .entry)) at (recordBytes (recordOf (paramOf op reg t))) ⌝ }
 {
@@ -180,14 +155,14 @@ fn store_one(
     requires { ⌜ Ready write (storeOne (lent (now tables) (now offsets)) float k p) at (length (now out)) ⌝ }
     ensures { λ r. ⌜ Makes write (storeOne (lent (now (tables .entry)) (now (offsets .entry))) float k p) at (now (out .entry)) (now (out .exit)) r ⌝ }
 {
-    match look_param(tables, offsets, p) {
-        ParamResult::Is(t) => {
+    match look_slot(tables, offsets, p) {
+        SlotResult::Is(t) => {
             if write {
                 put_param(out, at, t, store_op(float), param_register(float, k));
             }
             CountResult::Records(1)
         }
-        ParamResult::Refused(n) => CountResult::Refused(n),
+        SlotResult::Refused(n) => CountResult::Refused(n),
     }
 }
 

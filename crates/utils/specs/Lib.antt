@@ -1,4 +1,5 @@
 pub mod Answers
 pub mod Kinds
 pub mod Sources
+pub mod Slots
 pub mod Makes

@@ -5,6 +5,7 @@
 // `Instruction`. It answers how many they are, written or not, or the number of a refusal. So the pass that counts and the pass that writes are one.
 pub mod kinds;
 pub mod registers;
+pub mod slots;
 
 use ir::Operand as IrOp;
 use ir::VarId;

@@ -1,4 +1,4 @@
-use Rattle.frame.specs.Stores.{paramSays}
+use Rattle.utils.specs.Slots.{slotSays}
 use Rattle.frame.proofs.Stores.{one-looked}
 use Rattle.x86.proofs.Lists.{puts, first, done}
 use Rattle.utils.proofs.Made.{told, has-room, makes, counts, refuses}
@@ -7,19 +7,19 @@ use Rattle.frame.proofs.store_one.Statement.{statement}
 use Rattle.frame.proofs.store_one.Tie as tie
 
 put-param-requires : tie.Need-put-param-requires
-put-param-requires c κs = has-room _ (one-looked _ _ _ _) (told paramSays (c .before .before .before .before .before .before .before .look-param .ensures) (c .before .before .before .before .before .t .given .1)) (c .before .before .before .before .before .before .before .before .before .before .before .pre) (c .before .before .before .if1 .taken)
+put-param-requires c κs = has-room _ (one-looked _ _ _ _) (told slotSays (c .before .before .before .before .before .before .before .look-slot .ensures) (c .before .before .before .before .before .t .given .1)) (c .before .before .before .before .before .before .before .before .before .before .before .pre) (c .before .before .before .if1 .taken)
 
 returns : tie.Need-returns
 returns c =
-    makes _ (one-looked _ _ _ _) (told paramSays (c .before .before .before .before .before .before .before .before .before .before .look-param .ensures) (c .before .before .before .before .before .before .before .before .t .given .1)) (c .before .before .before .before .before .before .if1 .taken)
+    makes _ (one-looked _ _ _ _) (told slotSays (c .before .before .before .before .before .before .before .before .before .before .look-slot .ensures) (c .before .before .before .before .before .before .before .before .t .given .1)) (c .before .before .before .before .before .before .if1 .taken)
     (puts (first (rw (c .before .before .before .before .store-op .ensures, c .before .before .before .param-register .ensures) at (c .before .before .put-param .ensures)) done)
-    (has-room _ (one-looked _ _ _ _) (told paramSays (c .before .before .before .before .before .before .before .before .before .before .look-param .ensures) (c .before .before .before .before .before .before .before .before .t .given .1)) (c .before .before .before .before .before .before .before .before .before .before .before .before .before .before .pre) (c .before .before .before .before .before .before .if1 .taken)))
+    (has-room _ (one-looked _ _ _ _) (told slotSays (c .before .before .before .before .before .before .before .before .before .before .look-slot .ensures) (c .before .before .before .before .before .before .before .before .t .given .1)) (c .before .before .before .before .before .before .before .before .before .before .before .before .before .before .pre) (c .before .before .before .before .before .before .if1 .taken)))
 
 returns-2 : tie.Need-returns-2
-returns-2 c = counts _ (one-looked _ _ _ _) (told paramSays (c .before .before .before .before .look-param .ensures) (c .before .before .t .given .1)) (c .if1 .left)
+returns-2 c = counts _ (one-looked _ _ _ _) (told slotSays (c .before .before .before .before .look-slot .ensures) (c .before .before .t .given .1)) (c .if1 .left)
 
 returns-3 : tie.Need-returns-3
-returns-3 c = refuses _ (one-looked _ _ _ _) (told paramSays (c .before .before .before .look-param .ensures) (c .before .n .given .1))
+returns-3 c = refuses _ (one-looked _ _ _ _) (told slotSays (c .before .before .before .look-slot .ensures) (c .before .n .given .1))
 
 pub store-one-spec : {M : Type 1} → statement M
 store-one-spec =

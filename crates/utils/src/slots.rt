@@ -1,0 +1,35 @@
+// A variable that is stored to: its slot and its size.
+use crate::OperandResult;
+use crate::SizeResult;
+use crate::convert_var;
+use crate::var_size;
+use ir::VarId;
+use x86::enums::Operand;
+use x86::enums::Size;
+ghost use mathlib.Core.Path.{_≡_};
+ghost use Rattle.utils.specs.Answers.{lent};
+ghost use Rattle.utils.specs.Slots.{slotSays, lookSlot};
+
+pub struct Slot {
+    pub var: Operand,
+    pub size: Size,
+}
+
+pub enum SlotResult {
+    Is(Slot),
+    Refused(u64),
+}
+
+// The slot is looked up before its size.
+pub fn look_slot(tables: &[u8], offsets: &[u64], v: VarId) -> SlotResult
+    ensures { λ r. ⌜ slotSays r ≡ lookSlot (lent (now (tables .entry)) (now (offsets .entry))) v ⌝ }
+{
+    let var = match convert_var(tables, offsets, v) {
+        OperandResult::Is(var) => var,
+        OperandResult::Refused(n) => return SlotResult::Refused(n),
+    };
+    match var_size(v) {
+        SizeResult::Is(size) => SlotResult::Is(Slot { var, size }),
+        SizeResult::Refused(n) => SlotResult::Refused(n),
+    }
+}
