@@ -25,8 +25,10 @@ use Rattle.layout.proofs.Walk.{walk-from}
 use Rattle.x86.specs.declared.enums.Instruction.{Instruction}
 use Rattle.codegen.specs.Context.{Context}
 use Rattle.codegen.specs.Generation.{Outcome, accepted, refused, _>>=_, at, generateInstruction, generateBody, endsInRet}
+use Rattle.codegen.specs.Bounds.{mostRecords, mostInBody}
 use Rattle.codegen.proofs.Results.{never}
 use Rattle.codegen.proofs.Shapes.{isReturn, Part, instr-part, ends-some, ends-same}
+use Rattle.calls.proofs.Pushes.{operands-count}
 use Rattle.utils.specs.declared.CountResult.{CountResult}
 use Rattle.utils.specs.Answers.{lent, counted}
 use Rattle.utils.specs.Makes.{after, Makes, Fits, Ready, then}
@@ -34,7 +36,7 @@ use Rattle.utils.proofs.Made.{Going, begins, next-ready, next, stops, finishes}
 use Rattle.body.specs.declared.Passed.{Passed}
 use Rattle.body.specs.declared.Surveyed.{Surveyed}
 use Rattle.body.specs.Head.{headCheck}
-use Rattle.body.specs.Body.{mostRecords, mostInBody, bodyOf, withoutPlace, passedOf, surveyOf}
+use Rattle.body.specs.Body.{bodyOf, withoutPlace, passedOf, surveyOf}
 use Rattle.body.proofs.Heads.{head-few, head-starts}
 
 -- ---- what a survey says of instructions behind others
@@ -165,7 +167,7 @@ module _ (s : List ℕ) where
 -- body, and `all` is the layout of its instructions.
 pub record Walking (ctx : Context) (labels : ℕ) (ret : IrType) (s : List ℕ) (whole : Outcome (List Instruction)) (all : Checked) (writes : Bool) (place : ℕ) (old : List ℕ)
     (left : ℕ) (here : Cursor) (i made : ℕ) (last : Bool) (new : List ℕ) : Type 0 where
-  pub few : made + mostRecords * left ≤ mostInBody
+  pub few : made + mostRecords 64 * left ≤ mostInBody
   pub number : i + left ≤ 4097
   pub layout : instrsCheck s left here ≡ all
   pub says : passedOf whole ≡ passedBehind made last (passedOf (generateBody ctx labels ret i (linesAt s left (here .at))))
@@ -209,7 +211,7 @@ module _ {ctx : Context} {labels : ℕ} {ret : IrType} {s : List ℕ} {whole : O
 
       -- Its records are few, and they end in Ret where it is a Return.
       module _ {n : ℕ} (is : List Instruction) (made-is : line ≡ ok is) (long : n ≡ length is) where
-        part : Part mostRecords (isReturn (instrAt s (here .at))) is
+        part : Part (mostRecords (length (lineAt s (here .at) .args))) (isReturn (instrAt s (here .at))) is
         part = instr-part ctx labels ret (lineAt s (here .at) .instr) (lineAt s (here .at) .args) .of is made-is
 
         says-more : passedOf whole ≡ passedBehind (made + n) (cond (ltb 0 n) (eqb (cellAt s (here .at)) 9) last) (passedOf (later d))
@@ -227,8 +229,8 @@ module _ {ctx : Context} {labels : ℕ} {ret : IrType} {s : List ℕ} {whole : O
           abbrev answer : (is : List Instruction) × (line ≡ ok is) × (n ≡ length is)
           answer = counted-ok line (m .says)
 
-          pub walked-few : n ≤ mostRecords
-          walked-few = omega (arith, part (answer .0) (answer .1) (answer .2) .few, answer .2)
+          pub walked-few : n ≤ mostRecords 64
+          walked-few = omega (arith, part (answer .0) (answer .1) (answer .2) .few, answer .2, operands-count s (argumentsAt s (here .at)) (here .at + 13), right-few s here e)
 
           pub walked-more : Walking ctx labels ret s whole all writes place old (left - 1) d (i + 1) (made + n) (cond (ltb 0 n) (eqb (cellAt s (here .at)) 9) last) newer
           walked-more =

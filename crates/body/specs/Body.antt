@@ -1,6 +1,6 @@
 -- Auxiliary: the records of an instruction and of a body, codegen's `generateInstruction` and `generateBody` on the sheet's cells, by `by-kind` (proofs/Lines)
 -- and `in-turn` (proofs/Running); and what a survey of a body says.
-use Prim.Native.Nat.{ℕ, _*_}
+use Prim.Native.Nat.{ℕ}
 use mathlib.Core.List.{List}
 use lib.ListN.{length}
 use Rattle.cells.specs.Cells.{cellAt}
@@ -14,18 +14,6 @@ use Rattle.codegen.specs.Generation.{Outcome, accepted, refused, generateInstru
 use Rattle.utils.specs.Answers.{lent}
 use Rattle.body.specs.declared.Surveyed.{Surveyed}
 use Rattle.body.specs.declared.Passed.{Passed}
-
--- ---- how many records
-
--- An instruction makes at most `mostRecords`, a body of 4,096 instructions makes at most `mostInBody`, and there are at most `mostBefore` before a body.
-abbrev pub mostRecords : ℕ
-mostRecords = 17
-
-abbrev pub mostInBody : ℕ
-mostInBody = 4096 * mostRecords
-
-abbrev pub mostBefore : ℕ
-mostBefore = 19
 
 -- ---- the records
 

@@ -21,9 +21,10 @@ ghost use Rattle.cells.specs.Cells.{cells, cellAt};
 ghost use Rattle.ir.specs.Function.{behind};
 ghost use Rattle.layout.specs.declared.Limited.{Limited};
 ghost use Rattle.layout.specs.Layout.{Laid, cursor, instrCheck, instrsCheck};
+ghost use Rattle.codegen.specs.Bounds.{mostInBody, mostInPrologue};
 ghost use Rattle.utils.specs.Makes.{after, Makes, Ready};
 ghost use Rattle.body.specs.Head.{headCheck};
-ghost use Rattle.body.specs.Body.{bodyOf, withoutPlace, passedOf, surveyOf, madeIn, mostInBody, mostBefore};
+ghost use Rattle.body.specs.Body.{bodyOf, withoutPlace, passedOf, surveyOf, madeIn};
 
 // The instructions make so many records, and the last of them is Ret or not; or one of them, numbered from 1, is refused.
 pub enum Passed {
@@ -82,7 +83,7 @@ fn walk_body(
 ) -> Surveyed
     requires { ⌜ headCheck (now sheet) ≡ Limited.Word (cellAt (now sheet) 5) from ⌝ }
     requires { ⌜ (write ≡ true → Laid (now sheet)) ⌝ }
-    requires { ⌜ first ≤ mostBefore ⌝ }
+    requires { ⌜ first ≤ mostInPrologue 256 ⌝ }
     requires { ⌜ Ready write (withoutPlace (bodyOf (now tables) (now offsets) (now sheet))) (64 * first) (length (now out)) ⌝ }
     ensures { λ r. ⌜ r ≡ surveyOf (instrsCheck (now (sheet .entry)) (cellAt (now (sheet .entry)) 5) from) (passedOf (bodyOf (now (tables .entry)) (now (offsets .entry)) (now (sheet .entry)))) ⌝ }
     ensures { λ r. ⌜ madeIn r ≤ mostInBody ⌝ }
@@ -131,7 +132,7 @@ pub fn survey_body(tables: &[u8], offsets: &[u64], sheet: &[u8], from: Cursor) -
 // It writes the records of every instruction behind the `first` ones, and gives their number. No instruction is refused, and there is room for the records.
 pub fn write_body(tables: &[u8], offsets: &[u64], sheet: &[u8], first: u64, out: &mut [u8]) -> u64
     requires { ⌜ Laid (now sheet) ⌝ }
-    requires { ⌜ first ≤ mostBefore ⌝ }
+    requires { ⌜ first ≤ mostInPrologue 256 ⌝ }
     requires { ⌜ Ready true (withoutPlace (bodyOf (now tables) (now offsets) (now sheet))) (64 * first) (length (now out)) ⌝ }
     ensures { λ r. ⌜ Makes true (withoutPlace (bodyOf (now (tables .entry)) (now (offsets .entry)) (now (sheet .entry)))) (64 * first) (now (out .entry)) (now (out .exit)) (CountResult.Records r) ⌝ }
 {

@@ -1,101 +1,123 @@
--- A call: the loads of its arguments, and behind them the call with the store of its result.
-use Prim.Native.Nat.{ℕ, zero, suc, _+_, _*_, _≤_}
-use mathlib.Core.Path.{_≡_, refl, sym, ap}
-use mathlib.Core.Bool.{Bool}
-use mathlib.Core.List.{List, [], _∷_, _++_, append-nil}
+-- The parts of a call, one behind the other, and how many records each of them has.
+use Prim.Native.Nat.{ℕ, zero, _+_, _*_, _≤_}
+use mathlib.Core.Path.{_≡_, refl, sym, ap, _∙_}
+use mathlib.Core.Bool.{Bool, true, false, cond}
+use mathlib.Core.List.{List, [], _∷_, _++_, append-assoc}
 use native.Mathlib.Omega.{arith}
-use lib.ListN.{length}
+use borrow.Author.Tests.{ne-eqb}
+use lib.ListN.{length, length-append}
 use Rattle.ir.specs.declared.Operand.{Operand as IrOp}
 use Rattle.ir.specs.declared.Dest.{Dest}
 use Rattle.ir.specs.Types.{Result, ok, refused, _>>=_}
 use Rattle.ir.specs.Function.{operandsAt}
+use Rattle.x86.specs.declared.enums.Size.{Size}
+use Rattle.x86.specs.declared.enums.BinOp.{BinOp}
+use Rattle.x86.specs.declared.enums.Operand.{Operand}
 use Rattle.x86.specs.declared.enums.Instruction.{Instruction}
+use Rattle.x86.specs.Registers.{RSP}
 use Rattle.codegen.specs.Context.{Context}
-use Rattle.codegen.specs.Utils.{varSize, convertVar}
-use Rattle.codegen.specs.Instructions.{paramRegs, paramFregs, floating, loadArgument, loadArguments, storeResult, generateCall}
-use Rattle.codegen.proofs.Results.{Yields, yields, any, bind, choose, never}
+use Rattle.codegen.specs.Instructions.{floating, excess, loadArguments, pushArguments, callArea, moveStack, storeResult, generateCall}
+use Rattle.codegen.proofs.Results.{Yields, yields, refuses, weaken}
+use Rattle.codegen.proofs.Shapes.{loads-few, pushes-few, stack-few, result-part, excess-few}
 use Rattle.utils.specs.declared.CountResult.{CountResult}
-use Rattle.utils.specs.Answers.{counted}
-use Rattle.utils.specs.Makes.{Makes, Ready, then}
-use Rattle.utils.proofs.Made.{Going, begins, next-ready, next, stops, finishes}
-use Rattle.calls.specs.Calls.{callSymbol, callOf}
+use Rattle.utils.specs.Makes.{Makes, then}
+use Rattle.utils.proofs.Rows.{InRow}
+use Rattle.calls.specs.Calls.{stackArguments, callOf, callRaised, callSymbol, callArguments}
+use Rattle.calls.proofs.Pushes.{operands-count}
 
--- ---- two makers in a row
+-- ---- the parts
 
-then-none : (r : Result (List Instruction)) → r ≡ then r (ok [])
-then-none (ok is) = ap ok (sym (append-nil is))
-then-none (refused n) = refl
-
-pub record InRow (whole a b : Result (List Instruction)) : Type 0 where
-  pub is : whole ≡ then a b
-
-module _ {writes : Bool} {whole a b : Result (List Instruction)} {at : ℕ} {old : List ℕ} (e : InRow whole a b) (room : Ready writes whole at (length old)) where
-  start : Going writes whole at old (then a b) 0 old
-  start = begins writes whole (then a b) at old (sym (e .is))
-
-  pub first-stops : {m : ℕ} {new : List ℕ} → Makes writes a at old new (CountResult.Refused m) → Makes writes whole at old new (CountResult.Refused m)
-  first-stops made = stops start room a b refl made
-
-  module _ {x : ℕ} {mid : List ℕ} (made : Makes writes a at old mid (CountResult.Records x)) where
-    half : Going writes whole at old b x mid
-    half = let z : 0 + x ≡ x = omega arith in rw z at (next start room a b refl (omega arith) made)
-
-    pub second-ready : Ready writes b (at + 64 * x) (length mid)
-    second-ready = next-ready half room b (ok []) (then-none b) refl
-
-    pub second-stops : {m : ℕ} {new : List ℕ} → Makes writes b (at + 64 * x) mid new (CountResult.Refused m) → Makes writes whole at old new (CountResult.Refused m)
-    second-stops also = stops half room b (ok []) (then-none b) also
-
-    pub both-made : {m : ℕ} {new : List ℕ} → Makes writes b (at + 64 * x) mid new (CountResult.Records m) → Makes writes whole at old new (CountResult.Records (x + m))
-    both-made also = finishes (next half room b (ok []) (then-none b) refl also) room refl
-
-pub first-ready : {writes : Bool} {whole a b : Result (List Instruction)} {at : ℕ} (old : List ℕ) → InRow whole a b → Ready writes whole at (length old) → Ready writes a at (length old)
-first-ready {writes} {whole} {a} {b} {at} old e room = next-ready (start {old = old} e room) room a b refl (omega arith)
-
--- ---- loads, then the call
-
-pub in-parts : (ctx : Context) (dest : Dest) (symbol : ℕ) (args : List IrOp) → InRow (generateCall ctx dest symbol args) (loadArguments ctx 0 0 args) (callSymbol ctx dest symbol)
-unfolding generateCall callSymbol
-in-parts ctx dest symbol args = record { is = go (loadArguments ctx 0 0 args) (storeResult ctx dest) }
+pub in-parts : (ctx : Context) (dest : Dest) (symbol : ℕ) (args : List IrOp) {k : ℕ} → k ≡ length (excess floating 0 0 args)
+    → InRow (generateCall ctx dest symbol args) (stackArguments ctx args) (callArguments ctx dest symbol k args)
+unfolding generateCall stackArguments callArguments callSymbol
+in-parts ctx dest symbol args {k} e = rw e (record { is = go (pushArguments ctx 0 (excess floating 0 0 args)) (loadArguments ctx 0 0 args) (storeResult ctx dest) })
   where
-    go : (a b : Result (List Instruction)) → (a >>= λ loads. b >>= λ store. ok (loads ++ callOf symbol ∷ store)) ≡ then a (b >>= λ store. ok (callOf symbol ∷ store))
-    go (ok loads) (ok store) = refl
-    go (ok loads) (refused n) = refl
-    go (refused n) b = refl
+    down : List Instruction
+    down = moveStack BinOp.Sub (length (excess floating 0 0 args))
 
--- ---- how many loads there are, and how many records behind them
+    up : List Instruction
+    up = moveStack BinOp.Add (length (excess floating 0 0 args))
 
-loads-count : (ctx : Context) (i f : ℕ) (xs : List IrOp) → Yields (loadArguments ctx i f xs) (λ is. length is ≡ length xs + 1)
-unfolding loadArguments
-loads-count ctx i f [] = yields refl
-loads-count ctx i f (x ∷ xs) =
-    choose (floating x)
-    (λ e. bind (any (loadArgument ctx paramFregs f x)) (λ load p. bind (loads-count ctx i (suc f) xs) (λ rest q. yields (omega arith))))
-    (λ e. bind (any (loadArgument ctx paramRegs i x)) (λ load p. bind (loads-count ctx (suc i) f xs) (λ rest q. yields (omega arith))))
+    go : (a b c : Result (List Instruction)) → (a >>= λ pushes. b >>= λ loads. c >>= λ store. ok (down ++ (pushes ++ (loads ++ callOf symbol ∷ (up ++ store)))))
+        ≡ then (then (ok down) a) (then b (then (ok (callOf symbol ∷ up)) c))
+    go (ok pushes) (ok loads) (ok store) = ap ok (sym (append-assoc down pushes (loads ++ callOf symbol ∷ (up ++ store))))
+    go (ok pushes) (ok loads) (refused n) = refl
+    go (ok pushes) (refused n) c = refl
+    go (refused n) b c = refl
 
-operands-count : (s : List ℕ) (n k : ℕ) → length (operandsAt s n k) ≡ n
-unfolding operandsAt
-operands-count s zero k = refl
-operands-count s (suc n) k = ap suc (operands-count s n (k + 4))
+pub stack-parts : (ctx : Context) (args : List IrOp) {k : ℕ} → k ≡ length (excess floating 0 0 args)
+    → InRow (stackArguments ctx args) (ok (moveStack BinOp.Sub k)) (pushArguments ctx 0 (excess floating 0 0 args))
+unfolding stackArguments
+stack-parts ctx args e = rw e (record { is = refl })
 
-pub loads-few : (ctx : Context) (s : List ℕ) (n k : ℕ) {writes : Bool} {at m : ℕ} {old new : List ℕ}
-    → Makes writes (loadArguments ctx 0 0 (operandsAt s n k)) at old new (CountResult.Records m) → m ≡ n + 1
-loads-few ctx s n k {writes} {at} {m} made = go (loadArguments ctx 0 0 (operandsAt s n k)) (loads-count ctx 0 0 (operandsAt s n k)) (made .says)
+pub argument-parts : (ctx : Context) (dest : Dest) (symbol k : ℕ) (args : List IrOp) → InRow (callArguments ctx dest symbol k args) (loadArguments ctx 0 0 args) (callSymbol ctx dest symbol k)
+unfolding callArguments
+argument-parts ctx dest symbol k args = record { is = refl }
+
+pub symbol-parts : (ctx : Context) (dest : Dest) (symbol k : ℕ) → InRow (callSymbol ctx dest symbol k) (ok (callRaised symbol k)) (storeResult ctx dest)
+unfolding callSymbol
+symbol-parts ctx dest symbol k = record { is = refl }
+
+pub raised-parts : (symbol k : ℕ) → InRow (ok (callRaised symbol k)) (ok (callOf symbol ∷ [])) (ok (moveStack BinOp.Add k))
+raised-parts symbol k = record { is = refl }
+
+-- ---- RSP is moved
+
+module _ (op : BinOp) (k : ℕ) (h : k ≡ 0 → ⊥) where
+  pub moved : _≡_ {A = Result (List Instruction)} (ok (moveStack op k)) (ok (Instruction.Binary op (Operand.Reg RSP) (Operand.Imm (callArea k)) Size.NoSize ∷ []))
+  moved = rw (ne-eqb k 0 h)
+
+  pub one-moved : {writes : Bool} {at : ℕ} {old new : List ℕ} {r : CountResult} → Makes writes (ok (moveStack op k)) at old new r
+      → Makes writes (ok (moveStack op k)) at old new (CountResult.Records 1)
+  one-moved m = record { says = rw (ne-eqb k 0 h); bytes = m .bytes }
+
+-- ---- no argument is in excess
+
+none-in : {A : Type 0} (xs : List A) → 0 ≡ length xs → xs ≡ []
+none-in [] e = refl
+none-in (x ∷ xs) e = absurd (omega arith)
+
+pub none-stacked : (ctx : Context) (args : List IrOp) {k : ℕ} → k ≡ length (excess floating 0 0 args) → k ≡ 0 → stackArguments ctx args ≡ ok []
+unfolding stackArguments pushArguments
+none-stacked ctx args e z = rw (none-in (excess floating 0 0 args) (sym z ∙ e))
+
+-- ---- how many records
+
+then-few : {a b : Result (List Instruction)} {m n : ℕ} → Yields a (λ is. length is ≤ m) → Yields b (λ is. length is ≤ n) → Yields (then a b) (λ is. length is ≤ m + n)
+then-few {a} {b} {m} {n} = go a b
   where
-    go : (r : Result (List Instruction)) → Yields r (λ is. length is ≡ length (operandsAt s n k) + 1) → ok m ≡ counted r → m ≡ n + 1
-    go (ok is) y e = let l : m ≡ length is = let z = e in cc in omega (arith, y .of is refl, operands-count s n k)
-    go (refused j) y e = absurd (never (sym e))
+    go : (a b : Result (List Instruction)) → Yields a (λ is. length is ≤ m) → Yields b (λ is. length is ≤ n) → Yields (then a b) (λ is. length is ≤ m + n)
+    go (ok is) (ok js) y z = yields (rw length-append (omega (arith, y .of is refl, z .of js refl)))
+    go (ok is) (refused q) y z = refuses q
+    go (refused q) b y z = refuses q
 
-call-count : (ctx : Context) (dest : Dest) (symbol : ℕ) → Yields (callSymbol ctx dest symbol) (λ is. length is ≤ 2)
-unfolding callSymbol storeResult
-call-count ctx Dest.Nothing symbol = yields (omega arith)
-call-count ctx (Dest.Var v) symbol =
-    bind (bind {Q = λ is. length is ≡ 1} (any (convertVar ctx v)) (λ var p. bind (any (varSize v)) (λ size q. yields refl))) (λ store l. yields (omega arith))
+pub few-moved : (op : BinOp) (k : ℕ) → Yields (ok (moveStack op k)) (λ is. length is ≤ 1)
+few-moved op k = yields (stack-few op k)
 
-pub call-few : (ctx : Context) (dest : Dest) (symbol : ℕ) {writes : Bool} {at m : ℕ} {old new : List ℕ}
-    → Makes writes (callSymbol ctx dest symbol) at old new (CountResult.Records m) → m ≤ 2
-call-few ctx dest symbol {writes} {at} {m} made = go (callSymbol ctx dest symbol) (call-count ctx dest symbol) (made .says)
-  where
-    go : (r : Result (List Instruction)) → Yields r (λ is. length is ≤ 2) → ok m ≡ counted r → m ≤ 2
-    go (ok is) y e = let l : m ≡ length is = let z = e in cc in omega (arith, y .of is refl)
-    go (refused j) y e = absurd (never (sym e))
+module _ (s : List ℕ) (n from : ℕ) where
+  pub excess-count : {k : ℕ} → k ≡ length (excess floating 0 0 (operandsAt s n from)) → k ≤ n
+  excess-count e = omega (arith, excess-few floating 0 0 (operandsAt s n from), operands-count s n from)
+
+  pub few-pushes : (ctx : Context) → Yields (pushArguments ctx 0 (excess floating 0 0 (operandsAt s n from))) (λ is. length is ≤ 2 * n)
+  few-pushes ctx = weaken (pushes-few ctx 0 (excess floating 0 0 (operandsAt s n from))) (λ is p. omega (arith, p, excess-count refl))
+
+  pub few-stacked : (ctx : Context) → Yields (stackArguments ctx (operandsAt s n from)) (λ is. length is ≤ 1 + 2 * n)
+  unfolding stackArguments
+  few-stacked ctx = then-few (few-moved BinOp.Sub (length (excess floating 0 0 (operandsAt s n from)))) (few-pushes ctx)
+
+  pub few-loads : (ctx : Context) → Yields (loadArguments ctx 0 0 (operandsAt s n from)) (λ is. length is ≤ n + 1)
+  few-loads ctx = weaken (loads-few ctx 0 0 (operandsAt s n from)) (λ is p. omega (arith, p, operands-count s n from))
+
+pub few-raised : (symbol k : ℕ) → Yields (ok (callRaised symbol k)) (λ is. length is ≤ 2)
+few-raised symbol k = yields (omega (arith, stack-few BinOp.Add k))
+
+pub few-stored : (ctx : Context) (dest : Dest) → Yields (storeResult ctx dest) (λ is. length is ≤ 1)
+few-stored ctx dest = weaken (result-part ctx dest) (λ is p. p .few)
+
+pub few-called : (ctx : Context) (dest : Dest) (symbol k : ℕ) → Yields (callSymbol ctx dest symbol k) (λ is. length is ≤ 3)
+unfolding callSymbol
+few-called ctx dest symbol k = then-few (few-raised symbol k) (few-stored ctx dest)
+
+pub few-behind : (ctx : Context) (dest : Dest) (symbol k : ℕ) (s : List ℕ) (n from : ℕ) → Yields (callArguments ctx dest symbol k (operandsAt s n from)) (λ is. length is ≤ n + 1 + 3)
+unfolding callArguments
+few-behind ctx dest symbol k s n from = then-few (few-loads s n from ctx) (few-called ctx dest symbol k)

@@ -1,3 +1,4 @@
 pub mod Parts
+pub mod Pushes
 pub mod Loads
 pub mod Calling

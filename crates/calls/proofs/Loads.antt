@@ -1,4 +1,4 @@
--- The loop over the arguments: the loads so far, and those that are left.
+-- The loop over the arguments that find registers: the loads so far, and those that are left.
 use Prim.Native.Nat.{ℕ, suc, _+_, _*_, _-_, _≤_, _<_}
 use mathlib.Core.Path.{_≡_, refl, sym, ap, subst, _∙_}
 use mathlib.Core.Bool.{Bool, true, false, cond}
@@ -8,114 +8,140 @@ use lib.ListN.{length}
 use Rattle.ir.specs.declared.Operand.{Operand as IrOp}
 use Rattle.ir.specs.Types.{Result, ok, refused, _>>=_}
 use Rattle.ir.specs.Function.{operandAt, operandsAt}
+use Rattle.x86.specs.declared.enums.Size.{Size}
 use Rattle.x86.specs.declared.enums.Instruction.{Instruction}
 use Rattle.codegen.specs.Context.{Context}
-use Rattle.codegen.specs.Instructions.{paramRegs, paramFregs, floating, loadArgument, loadArguments}
-use Rattle.codegen.specs.Frame.{registersOf}
+use Rattle.codegen.specs.Utils.{loadOperand}
+use Rattle.codegen.specs.Instructions.{floating, isSpent, wordsTaken, floatsTaken, registerOf, loadArguments}
 use Rattle.codegen.proofs.Results.{never}
 use Rattle.utils.specs.declared.CountResult.{CountResult}
+use Rattle.utils.specs.declared.registers.Taken.{Taken}
+use Rattle.utils.specs.Answers.{counted}
 use Rattle.utils.specs.Makes.{alone, Makes, Ready, then}
-use Rattle.utils.proofs.Made.{Going, begins, next-ready, next, stops, finishes}
-use Rattle.calls.specs.Calls.{countFloats}
+use Rattle.utils.specs.Excess.{taken, isBeyond, behindOne, Within}
+use Rattle.utils.proofs.Made.{Going, before-none, begins, next-ready, next, stops, finishes}
+use Rattle.utils.proofs.Rows.{always}
+use Rattle.utils.proofs.Beyond.{within-more, stack-more}
+use Rattle.calls.specs.Calls.{loadArgument, countOf}
+use Rattle.calls.proofs.Pushes.{next-left}
 
--- a load, and those of a result behind it
-in-turn : (a : Result Instruction) (r : Result (List Instruction)) → (a >>= λ load. r >>= λ rest. ok (load ∷ rest)) ≡ then (alone a) r
-in-turn (ok i) (ok is) = refl
-in-turn (ok i) (refused n) = refl
-in-turn (refused n) r = refl
+-- ---- one argument, and those behind it
 
--- the arguments behind one: `done` before it are loaded, and `floats` of them are floats
-abbrev behind-it : Context → ℕ → ℕ → Bool → List IrOp → Result (List Instruction)
-behind-it ctx done floats float xs = loadArguments ctx (done + 1 - (floats + cond float 1 0)) (floats + cond float 1 0) xs
+-- the loads of arguments, where some registers are taken
+abbrev loads-from : Context → List IrOp → Taken → Result (List Instruction)
+loads-from ctx xs t = loadArguments ctx (t .words) (t .floats) xs
 
-turn : (ctx : Context) (done floats : ℕ) (x : IrOp) (xs : List IrOp) → floats ≤ done → loadArguments ctx (done - floats) floats (x ∷ xs)
-    ≡ then (alone (loadArgument ctx (registersOf (floating x)) (cond (floating x) floats (done - floats)) x)) (behind-it ctx done floats (floating x) xs)
+turn : (ctx : Context) (t : Taken) (x : IrOp) (xs : List IrOp) → loads-from ctx (x ∷ xs) t ≡ then (loadArgument ctx t (floating x) x) (loads-from ctx xs (behindOne (floating x) t))
 unfolding loadArguments
-turn ctx done floats x xs h = go (floating x)
+turn ctx t x xs = go (isBeyond (floating x) t)
   where
-    go : (b : Bool) →
-        cond b (loadArgument ctx paramFregs floats x >>= λ load. loadArguments ctx (done - floats) (suc floats) xs >>= λ rest. ok (load ∷ rest))
-        (loadArgument ctx paramRegs (done - floats) x >>= λ load. loadArguments ctx (suc (done - floats)) floats xs >>= λ rest. ok (load ∷ rest))
-        ≡ then (alone (loadArgument ctx (registersOf b) (cond b floats (done - floats)) x)) (behind-it ctx done floats b xs)
-    go true =
-        let i : done + 1 - (floats + 1) ≡ done - floats = omega arith in
-        let f : floats + 1 ≡ suc floats = omega arith in
-        rw (i, f) (in-turn (loadArgument ctx paramFregs floats x) (loadArguments ctx (done - floats) (suc floats) xs))
-    go false =
-        let i : done + 1 - (floats + 0) ≡ suc (done - floats) = omega arith in
-        let f : floats + 0 ≡ floats = omega arith in
-        rw (i, f) (in-turn (loadArgument ctx paramRegs (done - floats) x) (loadArguments ctx (suc (done - floats)) floats xs))
+    i : ℕ
+    i = wordsTaken (floating x) (t .words)
 
-one-load : (a : Result Instruction) {writes : Bool} {at : ℕ} {old new : List ℕ} {n : ℕ} → Makes writes (alone a) at old new (CountResult.Records n) → n ≡ 1
-one-load (ok i) m = let z = m .says in cc
-one-load (refused q) m = absurd (never (sym (m .says)))
+    f : ℕ
+    f = floatsTaken (floating x) (t .floats)
+
+    load : Result Instruction
+    load = loadOperand ctx (registerOf (floating x) (t .words) (t .floats)) x Size.NoSize
+
+    in-turn : (a : Result Instruction) (r : Result (List Instruction)) → (a >>= λ load. r >>= λ rest. ok (load ∷ rest)) ≡ then (alone a) r
+    in-turn (ok i) (ok is) = refl
+    in-turn (ok i) (refused n) = refl
+    in-turn (refused n) r = refl
+
+    go : (b : Bool) → cond b (loads-from ctx xs t) (load >>= λ first. loadArguments ctx i f xs >>= λ rest. ok (first ∷ rest))
+        ≡ then (cond b (ok []) (alone load)) (loads-from ctx xs (cond b (taken (t .words) (t .floats) (suc (t .stack))) (taken i f (t .stack))))
+    go true = sym (before-none (loads-from ctx xs t))
+    go false = in-turn load (loadArguments ctx i f xs)
+
+-- by the code's test
+module _ (ctx : Context) (t : Taken) (b : Bool) (x : IrOp) {c : Bool} (e : c ≡ isBeyond b t) where
+  pub load-beyond : c ≡ true → loadArgument ctx t b x ≡ ok []
+  load-beyond h = rw (← e, h)
+
+  pub load-within : c ≡ false → loadArgument ctx t b x ≡ alone (loadOperand ctx (registerOf b (t .words) (t .floats)) x Size.NoSize)
+  load-within h = rw (← e, h)
+
+-- the records of one
+records-of : (ctx : Context) (b : Bool) (t : Taken) (x : IrOp) {writes : Bool} {at m : ℕ} {old new : List ℕ} → Makes writes (loadArgument ctx t b x) at old new (CountResult.Records m)
+    → t .words + t .floats + m ≡ behindOne b t .words + behindOne b t .floats
+records-of ctx b t x {writes} {at} {m} made = go (isBeyond b t) (made .says)
+  where
+    load : Result Instruction
+    load = loadOperand ctx (registerOf b (t .words) (t .floats)) x Size.NoSize
+
+    sum : Taken → ℕ
+    sum u = u .words + u .floats
+
+    one-taken : (b : Bool) → t .words + t .floats + 1 ≡ wordsTaken b (t .words) + floatsTaken b (t .floats)
+    one-taken true = omega arith
+    one-taken false = omega arith
+
+    one : (a : Result Instruction) → ok m ≡ counted (alone a) → t .words + t .floats + m ≡ wordsTaken b (t .words) + floatsTaken b (t .floats)
+    one (ok i) e = let l : m ≡ 1 = let z = e in cc in omega (arith, one-taken b)
+    one (refused n) e = absurd (never (sym e))
+
+    go : (c : Bool) → ok m ≡ counted (cond c (ok []) (alone load))
+        → t .words + t .floats + m ≡ sum (cond c (taken (t .words) (t .floats) (suc (t .stack))) (taken (wordsTaken b (t .words)) (floatsTaken b (t .floats)) (t .stack)))
+    go true e = let l : m ≡ 0 = let z = e in cc in omega arith
+    go false e = one load e
 
 -- ---- the loop
 
 -- `left` arguments from a cell on are to come
-pub record Loading (writes : Bool) (ctx : Context) (s : List ℕ) (n from at : ℕ) (old : List ℕ) (left cell done floats : ℕ) (new : List ℕ) : Type 0 where
-  pub all : done + left ≡ n
+pub record Loading (writes : Bool) (ctx : Context) (s : List ℕ) (n from at : ℕ) (old : List ℕ) (left cell : ℕ) (t : Taken) (new : List ℕ) : Type 0 where
+  pub few : t .stack + left ≤ n
   pub ends : cell + 4 * left ≡ from + 4 * n
-  pub some : floats ≤ done
-  pub going : Going writes (loadArguments ctx 0 0 (operandsAt s n from)) at old (loadArguments ctx (done - floats) floats (operandsAt s left cell)) done new
+  pub within : Within t
+  pub going : Going writes (loadArguments ctx 0 0 (operandsAt s n from)) at old (loads-from ctx (operandsAt s left cell) t) (t .words + t .floats) new
 
-pub none-loaded : (writes : Bool) (ctx : Context) (s : List ℕ) (n from at : ℕ) (old : List ℕ) → Loading writes ctx s n from at old n from 0 0 old
-none-loaded writes ctx s n from at old = record { all = omega arith; ends = refl; some = omega arith; going = begins writes _ _ at old refl }
+pub none-loaded : (writes : Bool) (ctx : Context) (s : List ℕ) (n from at : ℕ) (old : List ℕ) → Loading writes ctx s n from at old n from (taken 0 0 0) old
+none-loaded writes ctx s n from at old =
+    record { few = omega arith; ends = refl; within = record { words = omega arith; floats = omega arith }; going = begins writes _ _ at old refl }
 
-next-left : (s : List ℕ) (left cell : ℕ) → 0 < left → operandsAt s left cell ≡ operandAt s cell ∷ operandsAt s (left - 1) (cell + 4)
-unfolding operandsAt
-next-left s left cell h = let e : left ≡ suc (left - 1) = omega arith in ap (λ (m : ℕ). operandsAt s m cell) e
-
-module _ {writes : Bool} {ctx : Context} {s : List ℕ} {n from at : ℕ} {old : List ℕ} {left cell done floats : ℕ} {new : List ℕ}
-    (g : Loading writes ctx s n from at old left cell done floats new) (room : Ready writes (loadArguments ctx 0 0 (operandsAt s n from)) at (length old)) where
+module _ {writes : Bool} {ctx : Context} {s : List ℕ} {n from at : ℕ} {old : List ℕ} {left cell : ℕ} {t : Taken} {new : List ℕ}
+    (g : Loading writes ctx s n from at old left cell t new) (room : Ready writes (loadArguments ctx 0 0 (operandsAt s n from)) at (length old)) where
   -- a turn: the load of the next argument, x, and those behind it
-  module _ (h : 0 < left) {x : IrOp} (e : x ≡ operandAt s cell) {b : Bool} (d : b ≡ floating x) {k : ℕ} (j : k ≡ cond b floats (done - floats)) where
+  module _ (h : 0 < left) {x : IrOp} (e : x ≡ operandAt s cell) {b : Bool} (d : b ≡ floating x) where
     abbrev load : Result (List Instruction)
-    load = alone (loadArgument ctx (registersOf b) k x)
+    load = loadArgument ctx t b x
 
     abbrev behind : Result (List Instruction)
-    behind = behind-it ctx done floats b (operandsAt s (left - 1) (cell + 4))
+    behind = loads-from ctx (operandsAt s (left - 1) (cell + 4)) (behindOne b t)
 
-    left-is : loadArguments ctx (done - floats) floats (operandsAt s left cell) ≡ then load behind
+    left-is : loads-from ctx (operandsAt s left cell) t ≡ then load behind
     left-is =
-        ap (loadArguments ctx (done - floats) floats) (next-left s left cell h)
-        ∙ ap (λ (y : IrOp). loadArguments ctx (done - floats) floats (y ∷ operandsAt s (left - 1) (cell + 4))) (sym e)
-        ∙ turn ctx done floats x (operandsAt s (left - 1) (cell + 4)) (g .some) ∙ rw (j, d) refl
+        ap (λ (xs : List IrOp). loads-from ctx xs t) (next-left s left cell h) ∙ ap (λ (y : IrOp). loads-from ctx (y ∷ operandsAt s (left - 1) (cell + 4)) t) (sym e)
+        ∙ rw d (turn ctx t x (operandsAt s (left - 1) (cell + 4)))
 
-    pub load-ready : Ready writes load (at + 64 * done) (length new)
-    load-ready = next-ready (g .going) room load behind left-is refl
+    pub load-ready : {p : ℕ} → p ≡ at + 64 * (t .words + t .floats) → Ready writes load p (length new)
+    load-ready f = next-ready (g .going) room load behind left-is f
 
-    pub load-made : {m more : ℕ} {newer : List ℕ} → Makes writes load (at + 64 * done) new newer (CountResult.Records m) → more ≡ floats + cond b 1 0
-        → Loading writes ctx s n from at old (left - 1) (cell + 4) (done + 1) more newer
-    load-made {m} {more} {newer} made f =
-        record {
-          all = omega (arith, g .all);
+    pub load-made : {p m : ℕ} {newer : List ℕ} {u : Taken} → p ≡ at + 64 * (t .words + t .floats) → Makes writes load p new newer (CountResult.Records m) → u ≡ behindOne b t
+        → Loading writes ctx s n from at old (left - 1) (cell + 4) u newer
+    load-made {p} {m} {newer} f made k =
+        rw k (record {
+          few = omega (arith, g .few, stack-more b t);
           ends = omega (arith, g .ends);
-          some = few b f;
+          within = within-more b t (g .within);
           going =
-              rw f
-              (subst (λ (q : ℕ). Going writes (loadArguments ctx 0 0 (operandsAt s n from)) at old behind (done + q) newer) (one-load (loadArgument ctx (registersOf b) k x) made)
-              (next (g .going) room load behind left-is refl made));
-        }
-      where
-        few : (y : Bool) → more ≡ floats + cond y 1 0 → more ≤ done + 1
-        few true z = omega (arith, g .some)
-        few false z = omega (arith, g .some)
+              subst (λ (q : ℕ). Going writes (loadArguments ctx 0 0 (operandsAt s n from)) at old behind q newer) (records-of ctx b t x made)
+              (next (g .going) room load behind left-is f made);
+        })
 
-    pub load-refused : {m : ℕ} {newer : List ℕ} → Makes writes load (at + 64 * done) new newer (CountResult.Refused m)
+    pub load-refused : {p m : ℕ} {newer : List ℕ} → Makes writes load p new newer (CountResult.Refused m)
         → Makes writes (loadArguments ctx 0 0 (operandsAt s n from)) at old newer (CountResult.Refused m)
     load-refused made = stops (g .going) room load behind left-is made
 
   -- all are loaded: the number of floats is left
   module _ (h : left ≤ 0) where
-    floats-left : loadArguments ctx (done - floats) floats (operandsAt s left cell) ≡ then (ok (countFloats floats)) (ok [])
+    floats-left : loads-from ctx (operandsAt s left cell) t ≡ then (ok (countOf (t .floats) ∷ [])) (ok [])
     unfolding loadArguments operandsAt
-    floats-left = let e : left ≡ 0 = omega arith in ap (λ (m : ℕ). loadArguments ctx (done - floats) floats (operandsAt s m cell)) e
+    floats-left = let e : left ≡ 0 = omega arith in ap (λ (m : ℕ). loads-from ctx (operandsAt s m cell) t) e
 
-    pub count-ready : Ready writes (ok (countFloats floats)) (at + 64 * done) (length new)
-    count-ready = next-ready (g .going) room (ok (countFloats floats)) (ok []) floats-left refl
+    pub count-ready : {p : ℕ} → p ≡ at + 64 * (t .words + t .floats) → Ready writes (ok (countOf (t .floats) ∷ [])) p (length new)
+    count-ready f = next-ready (g .going) room (ok (countOf (t .floats) ∷ [])) (ok []) floats-left f
 
-    pub all-loaded : {r : CountResult} {newer : List ℕ} → Makes writes (ok (countFloats floats)) (at + 64 * done) new newer r
-        → Makes writes (loadArguments ctx 0 0 (operandsAt s n from)) at old newer (CountResult.Records (done + 1))
-    all-loaded made =
-        finishes (next (g .going) room (ok (countFloats floats)) (ok []) {n = 1} floats-left refl (record { says = refl; bytes = made .bytes })) room refl
+    pub all-loaded : {p : ℕ} {r : CountResult} {newer : List ℕ} → p ≡ at + 64 * (t .words + t .floats) → Makes writes (ok (countOf (t .floats) ∷ [])) p new newer r
+        → Makes writes (loadArguments ctx 0 0 (operandsAt s n from)) at old newer (CountResult.Records (t .words + t .floats + 1))
+    all-loaded f made = finishes (next (g .going) room (ok (countOf (t .floats) ∷ [])) (ok []) floats-left f (always made)) room refl

@@ -1,19 +1,25 @@
--- Auxiliary: the parts of a call; `generateCall` is the loads and `callSymbol` behind them, by `in-parts`, and `callSymbol` is made of what utils' `lookSlot` finds, by `kept-looked` (proofs/Parts).
-use Prim.Native.Nat.{ℕ}
+-- Auxiliary: the parts of a call, one behind the other. `generateCall` is `stackArguments` and `callArguments`, by `in-parts` (proofs/Calling);
+-- `pushArguments` is `pushOne` of each argument in excess, by `pushing` (proofs/Pushes), and `loadArguments` is `loadArgument` of each, by `turn` (proofs/Loads).
+use Prim.Native.Nat.{ℕ, _*_}
 use mathlib.Core.Bool.{Bool, true, false, cond}
 use mathlib.Core.List.{List, [], _∷_}
+use lib.ListN.{length}
 use Rattle.ir.specs.declared.Dest.{Dest}
 use Rattle.ir.specs.declared.Operand.{Operand as IrOp}
-use Rattle.ir.specs.Types.{Result, ok, _>>=_}
+use Rattle.ir.specs.Types.{Result, ok}
 use Rattle.x86.specs.declared.enums.Size.{Size}
 use Rattle.x86.specs.declared.enums.BinOp.{BinOp}
 use Rattle.x86.specs.declared.enums.CtrlOp.{CtrlOp}
 use Rattle.x86.specs.declared.enums.Operand.{Operand}
 use Rattle.x86.specs.declared.enums.Instruction.{Instruction}
-use Rattle.x86.specs.Registers.{xmm, RAX}
+use Rattle.x86.specs.Registers.{xmm, RAX, rspPlus}
 use Rattle.codegen.specs.Context.{Context}
-use Rattle.codegen.specs.Instructions.{move, storeResult}
+use Rattle.codegen.specs.Utils.{loadOperand}
+use Rattle.codegen.specs.Instructions.{move, floating, excess, registerOf, loadArguments, pushArguments, moveStack, storeResult}
+use Rattle.utils.specs.declared.registers.Taken.{Taken}
 use Rattle.utils.specs.declared.slots.Slot.{Slot}
+use Rattle.utils.specs.Makes.{alone, then}
+use Rattle.utils.specs.Excess.{isBeyond}
 
 -- whether an argument is a float constant
 abbrev pub isFloatConstant : IrOp → Bool
@@ -25,23 +31,46 @@ isFloatConstant (IrOp.Address v) = false
 isFloatConstant (IrOp.DataAddress k) = false
 isFloatConstant IrOp.Null = false
 
+-- ---- the stack
+
+-- an argument in excess, of number j: its load, and the store of RAX at RSP plus 8j
+abbrev pub pushOf : ℕ → Instruction
+pushOf j = move (rspPlus (8 * j)) (Operand.Reg RAX) Size.U64
+
+unfoldable pub pushOne : Context → ℕ → IrOp → Result (List Instruction)
+pushOne ctx j x = then (alone (loadOperand ctx RAX x Size.NoSize)) (ok (pushOf j ∷ []))
+
+-- RSP lowered, and the arguments in excess in its area
+unfoldable pub stackArguments : Context → List IrOp → Result (List Instruction)
+stackArguments ctx args = then (ok (moveStack BinOp.Sub (length (excess floating 0 0 args)))) (pushArguments ctx 0 (excess floating 0 0 args))
+
+-- ---- the registers
+
+-- an argument into the register that it finds; no record for one in excess
+abbrev pub loadArgument : Context → Taken → Bool → IrOp → Result (List Instruction)
+loadArgument ctx t float x = cond (isBeyond float t) (ok []) (alone (loadOperand ctx (registerOf float (t .words) (t .floats)) x Size.NoSize))
+
 -- the number of floats, in RAX
-abbrev pub countFloats : ℕ → List Instruction
-countFloats n = move (Operand.Reg RAX) (Operand.Imm n) Size.NoSize ∷ []
+abbrev pub countOf : ℕ → Instruction
+countOf n = move (Operand.Reg RAX) (Operand.Imm n) Size.NoSize
+
+-- ---- the call
 
 abbrev pub callOf : ℕ → Instruction
 callOf symbol = Instruction.Ctrl CtrlOp.Call (Operand.Sym symbol)
 
--- the call, and the store of its result
-unfoldable pub callSymbol : Context → Dest → ℕ → Result (List Instruction)
-callSymbol ctx dest symbol = storeResult ctx dest >>= λ store. ok (callOf symbol ∷ store)
+-- .. and RSP raised again, where k arguments are in excess
+abbrev pub callRaised : ℕ → ℕ → List Instruction
+callRaised symbol k = callOf symbol ∷ moveStack BinOp.Add k
 
--- ---- a result that is kept
-
--- its store, from XMM0 or RAX
+-- the store of a result that is kept, from XMM0 or RAX
 abbrev pub resultOf : Bool → Slot → Instruction
 resultOf float t = cond float (Instruction.Binary BinOp.StoreF (t .var) (Operand.Reg (xmm 0)) (t .size)) (move (t .var) (Operand.Reg RAX) (t .size))
 
--- the call, and that store
-abbrev pub keptOf : Bool → ℕ → Slot → List Instruction
-keptOf float symbol t = callOf symbol ∷ resultOf float t ∷ []
+-- the call, and the store of its result
+unfoldable pub callSymbol : Context → Dest → ℕ → ℕ → Result (List Instruction)
+callSymbol ctx dest symbol k = then (ok (callRaised symbol k)) (storeResult ctx dest)
+
+-- the arguments in registers before these
+unfoldable pub callArguments : Context → Dest → ℕ → ℕ → List IrOp → Result (List Instruction)
+callArguments ctx dest symbol k args = then (loadArguments ctx 0 0 args) (callSymbol ctx dest symbol k)

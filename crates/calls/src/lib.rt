@@ -6,8 +6,8 @@ use ir::read::operand_at;
 use utils::CountResult;
 use utils::load_operand;
 use utils::mov;
-use utils::registers::param_register;
-use utils::registers::registers;
+use utils::one_record;
+use utils::registers::Taken;
 use utils::slots::Slot;
 use utils::slots::SlotResult;
 use utils::slots::look_slot;
@@ -16,22 +16,24 @@ use x86::enums::CtrlOp;
 use x86::enums::Instruction;
 use x86::enums::Operand;
 use x86::enums::Size;
+use x86::mem_address::Base;
+use x86::mem_address::MemAddress;
 use x86::record::put_instruction;
 use x86::register::Register;
 ghost use mathlib.Core.Path.{_≡_};
-ghost use mathlib.Core.Bool.{cond};
-ghost use Prim.Native.Nat.{_+_, _*_, _-_, _≤_};
+ghost use mathlib.Core.List.{[], _∷_};
+ghost use Prim.Native.Nat.{_+_, _*_, _≤_};
 ghost use lib.ListN.{length};
 ghost use Rattle.cells.specs.Cells.{cells, write};
 ghost use Rattle.ir.specs.declared.Dest.{Dest};
 ghost use Rattle.ir.specs.Types.{ok};
 ghost use Rattle.ir.specs.Function.{operandsAt};
 ghost use Rattle.x86.specs.Records.{recordOf, recordBytes};
-ghost use Rattle.codegen.specs.Frame.{registersOf};
-ghost use Rattle.codegen.specs.Instructions.{floating, loadArgument, loadArguments, generateCall};
+ghost use Rattle.codegen.specs.Instructions.{floating, excess, loadArguments, pushArguments, callArea, moveStack, storeResult, generateCall};
 ghost use Rattle.utils.specs.Answers.{lent};
-ghost use Rattle.utils.specs.Makes.{alone, Makes, Ready};
-ghost use Rattle.calls.specs.Calls.{isFloatConstant, countFloats, callOf, resultOf, callSymbol};
+ghost use Rattle.utils.specs.Makes.{Makes, Ready};
+ghost use Rattle.utils.specs.Excess.{ifBeyond};
+ghost use Rattle.calls.specs.Calls.{isFloatConstant, pushOne, loadArgument, stackArguments, callOf, callRaised, resultOf, callSymbol, callArguments};
 
 fn is_float_constant(op: IrOp) -> bool
     ensures { λ r. ⌜ r ≡ isFloatConstant op ⌝ }
@@ -39,7 +41,7 @@ fn is_float_constant(op: IrOp) -> bool
     if let IrOp::Float(_) = op { true } else { false }
 }
 
-// Whether an argument goes into an XMM register.
+// Whether an argument is a float.
 fn is_floating(op: IrOp) -> bool
     ensures { λ r. ⌜ r ≡ floating op ⌝ }
 {
@@ -50,70 +52,189 @@ fn is_floating(op: IrOp) -> bool
     ty.is_float()
 }
 
-// The argument of rank `k` among those that are floats, or among those that are not, into the register of its rank; refusal 8 where there is none.
-fn load_argument(
+// How many of the `count` arguments from cell `from` on are in excess. Six find their registers, whatever they are.
+fn count_excess(sheet: &[u8], count: u64, from: usize) -> u64
+    requires { ⌜ from + 4 * count ≤ cells (now sheet) ⌝ }
+    requires { ⌜ count ≤ 64 ⌝ }
+    ensures { λ r. ⌜ r ≡ length (excess floating 0 0 (operandsAt (now (sheet .entry)) count from)) ⌝ }
+{
+    if count <= 6 {
+        return 0;
+    }
+    let mut left = count;
+    let mut cell = from;
+    let mut taken = Taken::NONE;
+    while 0 < left {
+        let op = operand_at(sheet, cell);
+        taken = taken.with(is_floating(op));
+        cell += 4;
+        left -= 1;
+    }
+    taken.stack
+}
+
+// An argument in excess goes through RAX to RSP plus 8j.
+fn push_one(
     tables: &[u8],
     offsets: &[u64],
-    float: bool,
-    k: u64,
+    j: u64,
     op: IrOp,
     out: &mut [u8],
     at: usize,
     write: bool,
 ) -> CountResult
-    requires { ⌜ Ready write (alone (loadArgument (lent (now tables) (now offsets)) (registersOf float) k op)) at (length (now out)) ⌝ }
-    ensures { λ r. ⌜ Makes write (alone (loadArgument (lent (now (tables .entry)) (now (offsets .entry))) (registersOf float) k op)) at (now (out .entry)) (now (out .exit)) r ⌝ }
+    requires { ⌜ j ≤ 64 ⌝ }
+    requires { ⌜ at ≤ 8589934592 ⌝ }
+    requires { ⌜ Ready write (pushOne (lent (now tables) (now offsets)) j op) at (length (now out)) ⌝ }
+    ensures { λ r. ⌜ Makes write (pushOne (lent (now (tables .entry)) (now (offsets .entry))) j op) at (now (out .entry)) (now (out .exit)) r ⌝ }
 {
-    if registers(float) <= k {
-        return CountResult::Refused(8);
+    match load_operand(tables, offsets, Register::RAX, op, out, at, write) {
+        CountResult::Records(_) => {
+            let place = Operand::MemoryAddress(MemAddress {
+                base: Base::Rsp,
+                disp: 8 * j,
+            });
+            let push = mov(place, Operand::Reg(Register::RAX), Size::U64);
+            one_record(out, at + 64, push, write);
+            CountResult::Records(2)
+        }
+        CountResult::Refused(number) => CountResult::Refused(number),
     }
-    load_operand(
-        tables,
-        offsets,
-        param_register(float, k),
+}
+
+// No record for an argument that finds a register.
+fn push_argument(
+    tables: &[u8],
+    offsets: &[u64],
+    taken: Taken,
+    float: bool,
+    op: IrOp,
+    out: &mut [u8],
+    at: usize,
+    write: bool,
+) -> CountResult
+    requires { ⌜ taken .stack ≤ 64 ⌝ }
+    requires { ⌜ at ≤ 8589934592 ⌝ }
+    requires { ⌜ Ready write (ifBeyond float taken (pushOne (lent (now tables) (now offsets)) (taken .stack) op)) at (length (now out)) ⌝ }
+    ensures { λ r. ⌜ Makes write (ifBeyond float taken (pushOne (lent (now (tables .entry)) (now (offsets .entry))) (taken .stack) op)) at (now (out .entry)) (now (out .exit)) r ⌝ }
+{
+    if taken.is_beyond(float) {
+        return push_one(tables, offsets, taken.stack, op, out, at, write);
+    }
+    CountResult::Records(0)
+}
+
+// The arguments in excess, among the `count` from cell `from` on.
+fn push_arguments(
+    tables: &[u8],
+    offsets: &[u64],
+    sheet: &[u8],
+    count: u64,
+    from: usize,
+    out: &mut [u8],
+    at: usize,
+    write: bool,
+) -> CountResult
+    requires { ⌜ from + 4 * count ≤ cells (now sheet) ⌝ }
+    requires { ⌜ count ≤ 64 ⌝ }
+    requires { ⌜ at ≤ 8589926400 ⌝ }
+    requires { ⌜ Ready write (pushArguments (lent (now tables) (now offsets)) 0 (excess floating 0 0 (operandsAt (now sheet) count from))) at (length (now out)) ⌝ }
+    ensures { λ r. ⌜ Makes write (pushArguments (lent (now (tables .entry)) (now (offsets .entry))) 0 (excess floating 0 0 (operandsAt (now (sheet .entry)) count from))) at (now (out .entry)) (now (out .exit)) r ⌝ }
+{
+    let mut left = count;
+    let mut cell = from;
+    let mut taken = Taken::NONE;
+    while 0 < left {
+        let op = operand_at(sheet, cell);
+        let float = is_floating(op);
+        let place = at + 128 * taken.stack as usize;
+        match push_argument(tables, offsets, taken, float, op, out, place, write) {
+            CountResult::Records(_) => {}
+            CountResult::Refused(number) => return CountResult::Refused(number),
+        }
+        taken = taken.with(float);
+        cell += 4;
+        left -= 1;
+    }
+    CountResult::Records(2 * taken.stack)
+}
+
+// The area of `k` arguments in excess: the least multiple of 16 not below 8k.
+fn call_area(k: u64) -> u64
+    requires { ⌜ k ≤ 64 ⌝ }
+    ensures { λ r. ⌜ r ≡ callArea k ⌝ }
+{
+    (8 * k + 15) / 16 * 16
+}
+
+// RSP is lowered or raised by that area, if there are any.
+fn move_stack(op: BinOp, k: u64, out: &mut [u8], at: usize, write: bool) -> CountResult
+    requires { ⌜ k ≤ 64 ⌝ }
+    requires { ⌜ Ready write (ok (moveStack op k)) at (length (now out)) ⌝ }
+    ensures { λ r. ⌜ Makes write (ok (moveStack op k)) at (now (out .entry)) (now (out .exit)) r ⌝ }
+{
+    if k == 0 {
+        return CountResult::Records(0);
+    }
+    let moved = Instruction::Binary {
         op,
-        out,
-        at,
-        write,
-    )
+        dst: Operand::Reg(Register::RSP),
+        src: Operand::Imm(call_area(k)),
+        size: Size::NoSize,
+    };
+    one_record(out, at, moved, write)
 }
 
-// The rank of the next argument, where `done` are loaded and `floats` of them are floats.
-fn rank(float: bool, done: u64, floats: u64) -> u64
-    requires { ⌜ floats ≤ done ⌝ }
-    ensures { λ r. ⌜ r ≡ cond float floats (done - floats) ⌝ }
+// RSP is lowered, and the `k` arguments in excess are put in its area.
+fn stack_arguments(
+    tables: &[u8],
+    offsets: &[u64],
+    sheet: &[u8],
+    count: u64,
+    from: usize,
+    k: u64,
+    out: &mut [u8],
+    at: usize,
+    write: bool,
+) -> CountResult
+    requires { ⌜ from + 4 * count ≤ cells (now sheet) ⌝ }
+    requires { ⌜ count ≤ 64 ⌝ }
+    requires { ⌜ k ≡ length (excess floating 0 0 (operandsAt (now sheet) count from)) ⌝ }
+    requires { ⌜ at ≤ 4294967296 ⌝ }
+    requires { ⌜ Ready write (stackArguments (lent (now tables) (now offsets)) (operandsAt (now sheet) count from)) at (length (now out)) ⌝ }
+    ensures { λ r. ⌜ Makes write (stackArguments (lent (now (tables .entry)) (now (offsets .entry))) (operandsAt (now (sheet .entry)) count from)) at (now (out .entry)) (now (out .exit)) r ⌝ }
 {
-    if float { floats } else { done - floats }
-}
-
-// How many floats there are with it.
-fn floats_with(float: bool, floats: u64) -> u64
-    requires { ⌜ floats ≤ 64 ⌝ }
-    ensures { λ r. ⌜ r ≡ floats + cond float 1 0 ⌝ }
-{
-    if float { floats + 1 } else { floats }
-}
-
-// The number of floats, in RAX.
-fn count_floats(out: &mut [u8], at: usize, floats: u64, write: bool) -> CountResult
-    requires { ⌜ Ready write (ok (countFloats floats)) at (length (now out)) ⌝ }
-    ensures { λ r. ⌜ Makes write (ok (countFloats floats)) at (now (out .entry)) (now (out .exit)) r ⌝ }
-{
-    if write {
-        put_instruction(
-            out,
-            at,
-            mov(
-                Operand::Reg(Register::RAX),
-                Operand::Imm(floats),
-                Size::NoSize,
-            ),
-        );
+    if k == 0 {
+        return CountResult::Records(0);
     }
-    CountResult::Records(1)
+    move_stack(BinOp::Sub, k, out, at, write);
+    match push_arguments(tables, offsets, sheet, count, from, out, at + 64, write) {
+        CountResult::Records(pushes) => CountResult::Records(1 + pushes),
+        CountResult::Refused(number) => CountResult::Refused(number),
+    }
 }
 
-// The loads of the `count` arguments from cell `from` on, and of the number of floats.
+// An argument into the register that it finds; no record for one in excess.
+fn load_argument(
+    tables: &[u8],
+    offsets: &[u64],
+    taken: Taken,
+    float: bool,
+    op: IrOp,
+    out: &mut [u8],
+    at: usize,
+    write: bool,
+) -> CountResult
+    requires { ⌜ Ready write (loadArgument (lent (now tables) (now offsets)) taken float op) at (length (now out)) ⌝ }
+    ensures { λ r. ⌜ Makes write (loadArgument (lent (now (tables .entry)) (now (offsets .entry))) taken float op) at (now (out .entry)) (now (out .exit)) r ⌝ }
+{
+    if taken.is_beyond(float) {
+        return CountResult::Records(0);
+    }
+    load_operand(tables, offsets, taken.register(float), op, out, at, write)
+}
+
+// The loads of the `count` arguments from cell `from` on, and of the number of floats in registers, in RAX.
 fn load_arguments(
     tables: &[u8],
     offsets: &[u64],
@@ -126,45 +247,48 @@ fn load_arguments(
 ) -> CountResult
     requires { ⌜ from + 4 * count ≤ cells (now sheet) ⌝ }
     requires { ⌜ count ≤ 64 ⌝ }
-    requires { ⌜ at ≤ 4294967296 ⌝ }
+    requires { ⌜ at ≤ 8589926400 ⌝ }
     requires { ⌜ Ready write (loadArguments (lent (now tables) (now offsets)) 0 0 (operandsAt (now sheet) count from)) at (length (now out)) ⌝ }
     ensures { λ r. ⌜ Makes write (loadArguments (lent (now (tables .entry)) (now (offsets .entry))) 0 0 (operandsAt (now (sheet .entry)) count from)) at (now (out .entry)) (now (out .exit)) r ⌝ }
 {
     let mut left = count;
     let mut cell = from;
-    let mut done: u64 = 0;
-    let mut floats: u64 = 0;
+    let mut taken = Taken::NONE;
     while 0 < left {
         let op = operand_at(sheet, cell);
         let float = is_floating(op);
-        let k = rank(float, done, floats);
-        let place = at + 64 * done as usize;
-        match load_argument(tables, offsets, float, k, op, out, place, write) {
+        let place = at + 64 * (taken.words + taken.floats) as usize;
+        match load_argument(tables, offsets, taken, float, op, out, place, write) {
             CountResult::Records(_) => {}
             CountResult::Refused(number) => return CountResult::Refused(number),
         }
-        floats = floats_with(float, floats);
-        done += 1;
+        taken = taken.with(float);
         cell += 4;
         left -= 1;
     }
-    let end = at + 64 * done as usize;
-    count_floats(out, end, floats, write);
-    CountResult::Records(done + 1)
+    let loads = taken.words + taken.floats;
+    let floats = Operand::Imm(taken.floats);
+    let counted = mov(Operand::Reg(Register::RAX), floats, Size::NoSize);
+    one_record(out, at + 64 * loads as usize, counted, write);
+    CountResult::Records(loads + 1)
 }
 
-fn put_call(out: &mut [u8], at: usize, symbol: u64)
-    requires { ⌜ at + 64 ≤ length (now out) ⌝ }
-    ensures { λ _. ⌜ now (out .exit) ≡ write (now (out .entry)) at (recordBytes (recordOf (callOf symbol))) ⌝ }
+// The call, and RSP raised again.
+fn call_raised(symbol: u64, k: u64, out: &mut [u8], at: usize, write: bool) -> CountResult
+    requires { ⌜ k ≤ 64 ⌝ }
+    requires { ⌜ at ≤ 8589934592 ⌝ }
+    requires { ⌜ Ready write (ok (callRaised symbol k)) at (length (now out)) ⌝ }
+    ensures { λ r. ⌜ Makes write (ok (callRaised symbol k)) at (now (out .entry)) (now (out .exit)) r ⌝ }
 {
-    put_instruction(
-        out,
-        at,
-        Instruction::Ctrl {
-            op: CtrlOp::Call,
-            target: Operand::Sym(symbol),
-        },
-    );
+    let call = Instruction::Ctrl {
+        op: CtrlOp::Call,
+        target: Operand::Sym(symbol),
+    };
+    one_record(out, at, call, write);
+    match move_stack(BinOp::Add, k, out, at + 64, write) {
+        CountResult::Records(raised) => CountResult::Records(1 + raised),
+        CountResult::Refused(number) => CountResult::Refused(number),
+    }
 }
 
 // The result comes from XMM0 or RAX.
@@ -190,55 +314,108 @@ fn put_result(out: &mut [u8], at: usize, t: Slot, float: bool)
     put_instruction(out, at, mov(var, Operand::Reg(Register::RAX), size));
 }
 
-// The call, and the store of its result.
-fn call_kept(
+// The store of a result that is kept.
+fn store_kept(
     tables: &[u8],
     offsets: &[u64],
     v: VarId,
-    symbol: u64,
     out: &mut [u8],
     at: usize,
     write: bool,
 ) -> CountResult
-    requires { ⌜ Ready write (callSymbol (lent (now tables) (now offsets)) (Dest.Var v) symbol) at (length (now out)) ⌝ }
-    ensures { λ r. ⌜ Makes write (callSymbol (lent (now (tables .entry)) (now (offsets .entry))) (Dest.Var v) symbol) at (now (out .entry)) (now (out .exit)) r ⌝ }
+    requires { ⌜ Ready write (storeResult (lent (now tables) (now offsets)) (Dest.Var v)) at (length (now out)) ⌝ }
+    ensures { λ r. ⌜ Makes write (storeResult (lent (now (tables .entry)) (now (offsets .entry))) (Dest.Var v)) at (now (out .entry)) (now (out .exit)) r ⌝ }
 {
     let ty = v.ty;
     match look_slot(tables, offsets, v) {
         SlotResult::Is(t) => {
             if write {
-                put_call(out, at, symbol);
-                put_result(out, at + 64, t, ty.is_float());
+                put_result(out, at, t, ty.is_float());
             }
-            CountResult::Records(2)
+            CountResult::Records(1)
         }
-        SlotResult::Refused(n) => CountResult::Refused(n),
+        SlotResult::Refused(number) => CountResult::Refused(number),
     }
 }
 
-// .. if it is kept.
+fn store_result(
+    tables: &[u8],
+    offsets: &[u64],
+    dest: Dest,
+    out: &mut [u8],
+    at: usize,
+    write: bool,
+) -> CountResult
+    requires { ⌜ Ready write (storeResult (lent (now tables) (now offsets)) dest) at (length (now out)) ⌝ }
+    ensures { λ r. ⌜ Makes write (storeResult (lent (now (tables .entry)) (now (offsets .entry))) dest) at (now (out .entry)) (now (out .exit)) r ⌝ }
+{
+    let Dest::Var(v) = dest else {
+        return CountResult::Records(0);
+    };
+    store_kept(tables, offsets, v, out, at, write)
+}
+
+// The call with RSP raised, and the store of its result.
 fn call_symbol(
     tables: &[u8],
     offsets: &[u64],
     dest: Dest,
     symbol: u64,
+    k: u64,
     out: &mut [u8],
     at: usize,
     write: bool,
 ) -> CountResult
-    requires { ⌜ Ready write (callSymbol (lent (now tables) (now offsets)) dest symbol) at (length (now out)) ⌝ }
-    ensures { λ r. ⌜ Makes write (callSymbol (lent (now (tables .entry)) (now (offsets .entry))) dest symbol) at (now (out .entry)) (now (out .exit)) r ⌝ }
+    requires { ⌜ k ≤ 64 ⌝ }
+    requires { ⌜ at ≤ 8589934592 ⌝ }
+    requires { ⌜ Ready write (callSymbol (lent (now tables) (now offsets)) dest symbol k) at (length (now out)) ⌝ }
+    ensures { λ r. ⌜ Makes write (callSymbol (lent (now (tables .entry)) (now (offsets .entry))) dest symbol k) at (now (out .entry)) (now (out .exit)) r ⌝ }
 {
-    let Dest::Var(v) = dest else {
-        if write {
-            put_call(out, at, symbol);
-        }
-        return CountResult::Records(1);
+    let call = match call_raised(symbol, k, out, at, write) {
+        CountResult::Records(call) => call,
+        CountResult::Refused(number) => return CountResult::Refused(number),
     };
-    call_kept(tables, offsets, v, symbol, out, at, write)
+    let place = at + 64 * call as usize;
+    match store_result(tables, offsets, dest, out, place, write) {
+        CountResult::Records(store) => CountResult::Records(call + store),
+        CountResult::Refused(number) => CountResult::Refused(number),
+    }
 }
 
-// `call symbol` with the `count` arguments from cell `from` on: the floats in XMM0 to XMM7, the others in RDI, RSI, RDX, RCX, R8 and R9.
+// The arguments that find registers, and the call.
+fn call_arguments(
+    tables: &[u8],
+    offsets: &[u64],
+    sheet: &[u8],
+    count: u64,
+    from: usize,
+    dest: Dest,
+    symbol: u64,
+    k: u64,
+    out: &mut [u8],
+    at: usize,
+    write: bool,
+) -> CountResult
+    requires { ⌜ from + 4 * count ≤ cells (now sheet) ⌝ }
+    requires { ⌜ count ≤ 64 ⌝ }
+    requires { ⌜ k ≤ 64 ⌝ }
+    requires { ⌜ at ≤ 4295032832 ⌝ }
+    requires { ⌜ Ready write (callArguments (lent (now tables) (now offsets)) dest symbol k (operandsAt (now sheet) count from)) at (length (now out)) ⌝ }
+    ensures { λ r. ⌜ Makes write (callArguments (lent (now (tables .entry)) (now (offsets .entry))) dest symbol k (operandsAt (now (sheet .entry)) count from)) at (now (out .entry)) (now (out .exit)) r ⌝ }
+{
+    let loads = match load_arguments(tables, offsets, sheet, count, from, out, at, write) {
+        CountResult::Records(loads) => loads,
+        CountResult::Refused(number) => return CountResult::Refused(number),
+    };
+    let place = at + 64 * loads as usize;
+    match call_symbol(tables, offsets, dest, symbol, k, out, place, write) {
+        CountResult::Records(rest) => CountResult::Records(loads + rest),
+        CountResult::Refused(number) => CountResult::Refused(number),
+    }
+}
+
+// `call symbol` with the `count` arguments from cell `from` on: the floats in XMM0 to XMM7, the others in RDI, RSI, RDX, RCX, R8 and R9, and those in
+// excess of them on the stack.
 pub fn generate_call(
     tables: &[u8],
     offsets: &[u64],
@@ -257,13 +434,26 @@ pub fn generate_call(
     requires { ⌜ Ready write (generateCall (lent (now tables) (now offsets)) dest symbol (operandsAt (now sheet) count from)) at (length (now out)) ⌝ }
     ensures { λ r. ⌜ Makes write (generateCall (lent (now (tables .entry)) (now (offsets .entry))) dest symbol (operandsAt (now (sheet .entry)) count from)) at (now (out .entry)) (now (out .exit)) r ⌝ }
 {
-    let loads = match load_arguments(tables, offsets, sheet, count, from, out, at, write) {
-        CountResult::Records(loads) => loads,
+    let k = count_excess(sheet, count, from);
+    let pushes = match stack_arguments(tables, offsets, sheet, count, from, k, out, at, write) {
+        CountResult::Records(pushes) => pushes,
         CountResult::Refused(number) => return CountResult::Refused(number),
     };
-    let place = at + 64 * loads as usize;
-    match call_symbol(tables, offsets, dest, symbol, out, place, write) {
-        CountResult::Records(rest) => CountResult::Records(loads + rest),
+    let place = at + 64 * pushes as usize;
+    match call_arguments(
+        tables,
+        offsets,
+        sheet,
+        count,
+        from,
+        dest,
+        symbol,
+        k,
+        out,
+        place,
+        write,
+    ) {
+        CountResult::Records(rest) => CountResult::Records(pushes + rest),
         CountResult::Refused(number) => CountResult::Refused(number),
     }
 }

@@ -124,7 +124,7 @@ cast-part {s = s} h (extension {z} {var} p q) = extended-part s var z (eqb (s .s
 -- ---- calls
 
 -- a record an argument in a register, and the number of floats
-loads-few : (ctx : Context) (i f : ℕ) (xs : List IrOp) → Yields (loadArguments ctx i f xs) (λ is. length is + length (excess floating i f xs) ≡ suc (length xs))
+pub loads-few : (ctx : Context) (i f : ℕ) (xs : List IrOp) → Yields (loadArguments ctx i f xs) (λ is. length is + length (excess floating i f xs) ≡ suc (length xs))
 unfolding loadArguments excess
 loads-few ctx i f [] = yields refl
 loads-few ctx i f (x ∷ xs) = go (isSpent (floating x) i f) (loads-few ctx i f xs) (loads-few ctx (wordsTaken (floating x) i) (floatsTaken (floating x) f) xs)
@@ -143,20 +143,20 @@ loads-few ctx i f (x ∷ xs) = go (isSpent (floating x) i f) (loads-few ctx i f 
     go false u w = bind (any (loadOperand ctx (registerOf (floating x) i f) x Size.NoSize)) (λ load p. bind w (λ rest q. yields (omega arith)))
 
 -- two records an argument in excess
-pushes-few : (ctx : Context) (j : ℕ) (xs : List IrOp) → Yields (pushArguments ctx j xs) (λ is. length is ≡ 2 * length xs)
+pub pushes-few : (ctx : Context) (j : ℕ) (xs : List IrOp) → Yields (pushArguments ctx j xs) (λ is. length is ≡ 2 * length xs)
 unfolding pushArguments
 pushes-few ctx j [] = yields refl
 pushes-few ctx j (x ∷ xs) =
     bind (any (loadOperand ctx RAX x Size.NoSize)) (λ load p. bind (pushes-few ctx (suc j) xs) (λ rest q. yields (omega arith)))
 
-stack-few : (op : BinOp) (k : ℕ) → length (moveStack op k) ≤ 1
+pub stack-few : (op : BinOp) (k : ℕ) → length (moveStack op k) ≤ 1
 stack-few op k = go (eqb k 0)
   where
     go : (b : Bool) → length (cond b [] (Instruction.Binary op (Operand.Reg RSP) (Operand.Imm (callArea k)) Size.NoSize ∷ [])) ≤ 1
     go true = lit≤ tt
     go false = lit≤ tt
 
-result-part : (ctx : Context) (dest : Dest) → Yields (storeResult ctx dest) (Part 1 false)
+pub result-part : (ctx : Context) (dest : Dest) → Yields (storeResult ctx dest) (Part 1 false)
 unfolding storeResult endsInRet
 result-part ctx Dest.Nothing = yields (record { few = lit≤ tt; last = refl })
 result-part ctx (Dest.Var v) =
@@ -270,7 +270,7 @@ excess-few {A} float i f (x ∷ xs) = go (isSpent (float x) i f) (excess-few flo
     go false h k = omega arith
 
 -- a record a register, from the register of rank k on
-stores-few : (ctx : Context) (float : Bool) (k : ℕ) (ps : List VarId) → k ≤ length (registersOf float)
+pub stores-few : (ctx : Context) (float : Bool) (k : ℕ) (ps : List VarId) → k ≤ length (registersOf float)
     → Yields (storeParams ctx float k ps) (λ is. length is + k ≤ length (registersOf float))
 unfolding storeParams
 stores-few ctx float k [] h = yields (omega arith)
@@ -283,7 +283,7 @@ stores-few ctx float k (p ∷ ps) h =
     (λ e. stores-few ctx float k ps h)
 
 -- two records a parameter in excess
-copies-few : (ctx : Context) (j : ℕ) (ps : List VarId) → Yields (copyParams ctx j ps) (λ is. length is ≡ 2 * length ps)
+pub copies-few : (ctx : Context) (j : ℕ) (ps : List VarId) → Yields (copyParams ctx j ps) (λ is. length is ≡ 2 * length ps)
 unfolding copyParams
 copies-few ctx j [] = yields refl
 copies-few ctx j (p ∷ ps) =

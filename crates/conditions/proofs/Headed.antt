@@ -1,15 +1,12 @@
 -- The conditions on the head, one behind the other.
-use Prim.Native.Nat.{ℕ, _≤_, _<_}
-use mathlib.Core.Path.{_≡_, sym, _∙_}
+use Prim.Native.Nat.{ℕ}
+use mathlib.Core.Path.{_≡_, refl, sym, _∙_}
 use mathlib.Core.Bool.{Bool, true, false, _&&_}
 use mathlib.Core.List.{List}
-use borrow.Author.Tests.{le-leb, lt-leb}
-use lib.Dec.{leb}
 use Rattle.cells.specs.Cells.{cellAt}
 use Rattle.ir.specs.Function.{functionOf, typesAt, varsAt, typeAt, paramsFrom}
 use Rattle.machine.specs.Plain.{every, isPlainReturn, areDistinct, isScalarVar, isPlainHead}
 use Rattle.conditions.specs.Parts.{hasPlainCode}
-use Rattle.ir.proofs.Sheet.{vars-length}
 
 module _ (s : List ℕ) where
   abbrev types : Bool
@@ -21,9 +18,9 @@ module _ (s : List ℕ) where
   abbrev scalars : Bool
   scalars = every (isScalarVar (functionOf s)) (varsAt s (cellAt s 1) (paramsFrom s))
 
-  head-is : isPlainHead (functionOf s) ≡ (types && (isPlainReturn (typeAt s 3) && (leb (cellAt s 1) 6 && (distinct && scalars))))
+  head-is : isPlainHead (functionOf s) ≡ (types && (isPlainReturn (typeAt s 3) && (distinct && scalars)))
   unfolding isPlainHead functionOf
-  head-is = simp vars-length
+  head-is = refl
 
   pub types-fault : every hasPlainCode (typesAt s (cellAt s 0) 6) ≡ false → false ≡ isPlainHead (functionOf s)
   types-fault a = sym (head-is ∙ simp a)
@@ -33,13 +30,9 @@ module _ (s : List ℕ) where
     return-fault b = sym (head-is ∙ simp (a, b))
 
     module _ (b : isPlainReturn (typeAt s 3) ≡ true) where
-      pub count-fault : 6 < cellAt s 1 → false ≡ isPlainHead (functionOf s)
-      count-fault d = sym (head-is ∙ simp (a, b, lt-leb (cellAt s 1) 6 d))
+      pub distinct-fault : areDistinct (varsAt s (cellAt s 1) (paramsFrom s)) ≡ false → false ≡ isPlainHead (functionOf s)
+      distinct-fault e = sym (head-is ∙ simp (a, b, e))
 
-      module _ (d : cellAt s 1 ≤ 6) where
-        pub distinct-fault : areDistinct (varsAt s (cellAt s 1) (paramsFrom s)) ≡ false → false ≡ isPlainHead (functionOf s)
-        distinct-fault e = sym (head-is ∙ simp (a, b, le-leb (cellAt s 1) 6 d, e))
-
-        pub head-last : areDistinct (varsAt s (cellAt s 1) (paramsFrom s)) ≡ true →
-            every (isScalarVar (functionOf s)) (varsAt s (cellAt s 1) (paramsFrom s)) ≡ isPlainHead (functionOf s)
-        head-last e = sym (head-is ∙ simp (a, b, le-leb (cellAt s 1) 6 d, e))
+      pub head-last : areDistinct (varsAt s (cellAt s 1) (paramsFrom s)) ≡ true →
+          every (isScalarVar (functionOf s)) (varsAt s (cellAt s 1) (paramsFrom s)) ≡ isPlainHead (functionOf s)
+      head-last e = sym (head-is ∙ simp (a, b, e))

@@ -84,7 +84,7 @@ fn are_scalar_vars(sheet: &[u8], n: u64, from: usize) -> bool
     true
 }
 
-// At most six parameters, ids distinct, none an array.
+// Any number of parameters, ids distinct, none an array.
 pub fn is_plain_head(sheet: &[u8]) -> bool
     requires { ⌜ bodyFrom (now sheet) ≤ cells (now sheet) ⌝ }
     ensures { λ r. ⌜ r ≡ isPlainHead (functionOf (now (sheet .entry))) ⌝ }
@@ -97,9 +97,6 @@ pub fn is_plain_head(sheet: &[u8]) -> bool
     }
     let ret = type_at(sheet, 3);
     if !is_plain_return(ret) {
-        return false;
-    }
-    if 6 < params {
         return false;
     }
     if !are_distinct(sheet, params, from) {

@@ -1,3 +1,4 @@
 pub mod Offsets
 pub mod Stores
+pub mod Copies
 pub mod Prologue

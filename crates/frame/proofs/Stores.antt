@@ -14,7 +14,6 @@ use Rattle.x86.specs.declared.enums.Size.{Size}
 use Rattle.x86.specs.declared.enums.Operand.{Operand}
 use Rattle.x86.specs.declared.enums.Instruction.{Instruction}
 use Rattle.x86.specs.Registers.{RAX}
-use Rattle.x86.proofs.Lists.{none}
 use Rattle.codegen.specs.Context.{Context}
 use Rattle.codegen.specs.Utils.{varSize, convertVar}
 use Rattle.codegen.specs.Frame.{registersOf, storeOf, storeParams}
@@ -55,14 +54,6 @@ module _ (ctx : Context) (float : Bool) (k : ℕ) (p : VarId) {f : Bool} (e : f 
   pub has-register : {m : ℕ} → not (Bool·beq f float) ≡ false → m ≡ length (registersOf float) → k < m → storeParam ctx float k p ≡ storeOne ctx float k p
   unfolding storeParam
   has-register t q h = rw (← e, is-so (Bool·beq f float) t, lt-ltb k (length (registersOf float)) (omega arith))
-
--- no record
-pub none-made : {writes : Bool} {list : Result (List Instruction)} {at : ℕ} {old : List ℕ} → list ≡ ok [] → Makes writes list at old old (CountResult.Records 0)
-none-made {writes} {list} {at} {old} e = rw e (go writes)
-  where
-    go : (b : Bool) → Makes b (ok []) at old old (CountResult.Records 0)
-    go true = record { says = refl; bytes = none old at }
-    go false = record { says = refl; bytes = refl }
 
 -- ---- the parameters one after the other
 
@@ -151,7 +142,7 @@ pub record Storing (writes : Bool) (ctx : Context) (float : Bool) (s : List ℕ)
 pub none-stored : (writes : Bool) (ctx : Context) (float : Bool) (s : List ℕ) (n from at : ℕ) (old : List ℕ) → Storing writes ctx float s n from at old n from 0 old
 none-stored writes ctx float s n from at old = record { few = omega arith; ends = refl; free = omega arith; going = begins writes _ _ at old refl }
 
-next-left : (s : List ℕ) (left cell : ℕ) → 0 < left → varsAt s left cell ≡ varAt s cell ∷ varsAt s (left - 1) (cell + 3)
+pub next-left : (s : List ℕ) (left cell : ℕ) → 0 < left → varsAt s left cell ≡ varAt s cell ∷ varsAt s (left - 1) (cell + 3)
 unfolding varsAt
 next-left s left cell h = let e : left ≡ suc (left - 1) = omega arith in ap (λ (m : ℕ). varsAt s m cell) e
 

@@ -10,16 +10,25 @@ use layout::Checked;
 use layout::parts::MOST_BYTES;
 use layout::parts::type_check;
 use utils::CountResult;
+use utils::OperandResult;
+use utils::SizeResult;
+use utils::convert_var;
+use utils::mov;
+use utils::put_load;
+use utils::registers::Taken;
 use utils::registers::param_register;
 use utils::registers::registers;
 use utils::slots::Slot;
 use utils::slots::SlotResult;
 use utils::slots::look_slot;
+use utils::var_size;
 use x86::enums::BinOp;
 use x86::enums::Instruction;
 use x86::enums::Operand;
 use x86::enums::Size;
 use x86::enums::StackOp;
+use x86::mem_address::Base;
+use x86::mem_address::MemAddress;
 use x86::record::put_instruction;
 use x86::register::Register;
 ghost use mathlib.Core.Path.{_≡_};
@@ -32,11 +41,14 @@ ghost use Rattle.ir.specs.Types.{ok, elementWidth, offsetBehind};
 ghost use Rattle.ir.specs.Function.{typesAt, varsAt};
 ghost use Rattle.layout.specs.Layout.{accepts, typesCheck};
 ghost use Rattle.x86.specs.Records.{recordOf, recordBytes, listBytes};
-ghost use Rattle.codegen.specs.Frame.{offsetsFrom, storeOf, storeParams, funcPrologue};
+ghost use Rattle.codegen.specs.Instructions.{excess};
+ghost use Rattle.codegen.specs.Frame.{offsetsFrom, storeOf, storeParams, copyParams, isFloatParam, funcPrologue};
 ghost use Rattle.utils.specs.Answers.{lent};
 ghost use Rattle.utils.specs.Makes.{Makes, Ready};
+ghost use Rattle.utils.specs.Slots.{slotSays};
+ghost use Rattle.utils.specs.Excess.{ifBeyond};
 ghost use Rattle.frame.specs.Sizes.{totalOf, sizesAt, typedOf, offsetsAfter};
-ghost use Rattle.frame.specs.Stores.{entering, paramOf, storeOne, storeParam};
+ghost use Rattle.frame.specs.Stores.{entering, paramOf, storeOne, storeParam, lookCopied, copiedOf, copyOne};
 
 // What the variables' types come to: the last offset and the cursor behind them, or the first wrong cell.
 pub enum Typed {
@@ -166,7 +178,7 @@ fn store_one(
     }
 }
 
-// No record for a parameter of the other kind, or where no register is left.
+// No record for a parameter of the other kind, or where no register is left: that one is in excess.
 fn store_param(
     tables: &[u8],
     offsets: &[u64],
@@ -227,6 +239,120 @@ fn store_params(
     CountResult::Records(k)
 }
 
+// What a parameter in excess is copied into: the size is looked up before the slot.
+fn look_copied(tables: &[u8], offsets: &[u64], p: VarId) -> SlotResult
+    ensures { λ r. ⌜ slotSays r ≡ lookCopied (lent (now (tables .entry)) (now (offsets .entry))) p ⌝ }
+{
+    let size = match var_size(p) {
+        SizeResult::Is(size) => size,
+        SizeResult::Refused(n) => return SlotResult::Refused(n),
+    };
+    match convert_var(tables, offsets, p) {
+        OperandResult::Is(var) => SlotResult::Is(Slot { var, size }),
+        OperandResult::Refused(n) => SlotResult::Refused(n),
+    }
+}
+
+// From RBP plus 16 plus 8j, through RAX, into its slot.
+fn put_copy(out: &mut [u8], at: usize, j: u64, t: Slot)
+    requires { ⌜ j ≤ 256 ⌝ }
+    requires { ⌜ at + 128 ≤ length (now out) ⌝ }
+    ensures { λ _. ⌜ now (out .exit) ≡ write (now (out .entry)) at (listBytes (copiedOf j t)) ⌝ }
+{
+    let var = t.var;
+    let size = t.size;
+    let place = Operand::MemoryAddress(MemAddress {
+        base: Base::Rbp,
+        disp: 16 + 8 * j,
+    });
+    put_load(out, at, Register::RAX, place, size);
+    put_instruction(out, at + 64, mov(var, Operand::Reg(Register::RAX), size));
+}
+
+fn copy_one(
+    tables: &[u8],
+    offsets: &[u64],
+    j: u64,
+    p: VarId,
+    out: &mut [u8],
+    at: usize,
+    write: bool,
+) -> CountResult
+    requires { ⌜ j ≤ 256 ⌝ }
+    requires { ⌜ Ready write (copyOne (lent (now tables) (now offsets)) j p) at (length (now out)) ⌝ }
+    ensures { λ r. ⌜ Makes write (copyOne (lent (now (tables .entry)) (now (offsets .entry))) j p) at (now (out .entry)) (now (out .exit)) r ⌝ }
+{
+    match look_copied(tables, offsets, p) {
+        SlotResult::Is(t) => {
+            if write {
+                put_copy(out, at, j, t);
+            }
+            CountResult::Records(2)
+        }
+        SlotResult::Refused(n) => CountResult::Refused(n),
+    }
+}
+
+// No record for a parameter that came in a register.
+fn copy_param(
+    tables: &[u8],
+    offsets: &[u64],
+    taken: Taken,
+    float: bool,
+    p: VarId,
+    out: &mut [u8],
+    at: usize,
+    write: bool,
+) -> CountResult
+    requires { ⌜ taken .stack ≤ 256 ⌝ }
+    requires { ⌜ Ready write (ifBeyond float taken (copyOne (lent (now tables) (now offsets)) (taken .stack) p)) at (length (now out)) ⌝ }
+    ensures { λ r. ⌜ Makes write (ifBeyond float taken (copyOne (lent (now (tables .entry)) (now (offsets .entry))) (taken .stack) p)) at (now (out .entry)) (now (out .exit)) r ⌝ }
+{
+    if taken.is_beyond(float) {
+        return copy_one(tables, offsets, taken.stack, p, out, at, write);
+    }
+    CountResult::Records(0)
+}
+
+// The copies of the parameters in excess, among `n` from cell `from` on. Six have come in registers, whatever they are.
+fn copy_params(
+    tables: &[u8],
+    offsets: &[u64],
+    sheet: &[u8],
+    n: u64,
+    from: usize,
+    out: &mut [u8],
+    at: usize,
+    write: bool,
+) -> CountResult
+    requires { ⌜ from + 3 * n ≤ cells (now sheet) ⌝ }
+    requires { ⌜ n ≤ 256 ⌝ }
+    requires { ⌜ at ≤ 2048 ⌝ }
+    requires { ⌜ Ready write (copyParams (lent (now tables) (now offsets)) 0 (excess isFloatParam 0 0 (varsAt (now sheet) n from))) at (length (now out)) ⌝ }
+    ensures { λ r. ⌜ Makes write (copyParams (lent (now (tables .entry)) (now (offsets .entry))) 0 (excess isFloatParam 0 0 (varsAt (now (sheet .entry)) n from))) at (now (out .entry)) (now (out .exit)) r ⌝ }
+{
+    if n <= 6 {
+        return CountResult::Records(0);
+    }
+    let mut left = n;
+    let mut cell = from;
+    let mut taken = Taken::NONE;
+    while 0 < left {
+        let p = var_at(sheet, cell);
+        let ty = p.ty;
+        let float = ty.is_float();
+        let place = at + 128 * taken.stack as usize;
+        match copy_param(tables, offsets, taken, float, p, out, place, write) {
+            CountResult::Records(_) => {}
+            CountResult::Refused(number) => return CountResult::Refused(number),
+        }
+        taken = taken.with(float);
+        cell += 3;
+        left -= 1;
+    }
+    CountResult::Records(2 * taken.stack)
+}
+
 // `push rbp ; mov rbp, rsp ; sub rsp, bytes`, at the start.
 fn put_enter(out: &mut [u8], bytes: u64)
     requires { ⌜ 192 ≤ length (now out) ⌝ }
@@ -275,7 +401,7 @@ fn enter(out: &mut [u8], bytes: u64, write: bool) -> CountResult
     CountResult::Records(3)
 }
 
-// Then each of the `n` parameters, from cell `from` on, goes from its register into its slot.
+// Then each of the `n` parameters, from cell `from` on, goes from its register, or from the caller's stack, into its slot.
 pub fn func_prologue(
     tables: &[u8],
     offsets: &[u64],
@@ -297,8 +423,13 @@ pub fn func_prologue(
         CountResult::Refused(number) => return CountResult::Refused(number),
     };
     let place = 192 + 64 * words as usize;
-    match store_params(tables, offsets, sheet, n, from, true, out, place, write) {
-        CountResult::Records(floats) => CountResult::Records(3 + words + floats),
+    let floats = match store_params(tables, offsets, sheet, n, from, true, out, place, write) {
+        CountResult::Records(floats) => floats,
+        CountResult::Refused(number) => return CountResult::Refused(number),
+    };
+    let end = place + 64 * floats as usize;
+    match copy_params(tables, offsets, sheet, n, from, out, end, write) {
+        CountResult::Records(copies) => CountResult::Records(3 + words + floats + copies),
         CountResult::Refused(number) => CountResult::Refused(number),
     }
 }

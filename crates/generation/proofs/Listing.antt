@@ -9,26 +9,27 @@ use lib.Dec.{ltb}
 use Rattle.cells.specs.Cells.{cellAt, write}
 use Rattle.ir.specs.declared.VarId.{VarId}
 use Rattle.ir.specs.Function.{varsAt}
+use Rattle.ir.proofs.Sheet.{vars-length}
 use Rattle.ir.specs.Types as types
 use Rattle.ir.specs.Types.{Result, ok, isFloat}
 use Rattle.x86.specs.declared.enums.Instruction.{Instruction}
 use Rattle.x86.specs.Records.{listBytes}
 use Rattle.codegen.specs.Context.{Context}
 use Rattle.codegen.specs.Utils.{varSize, convertVar}
-use Rattle.codegen.specs.Instructions.{funcEpilogue}
-use Rattle.codegen.specs.Frame.{registersOf, storeParams, funcPrologue}
+use Rattle.codegen.specs.Instructions.{funcEpilogue, excess}
+use Rattle.codegen.specs.Frame.{registersOf, storeParams, copyParams, isFloatParam, funcPrologue}
+use Rattle.codegen.specs.Bounds.{mostInPrologue}
 use Rattle.codegen.specs.Generation.{Outcome, accepted, refused, _>>=_, at, isRet, endsInRet, withEpilogue}
 use Rattle.codegen.proofs.Results.{Yields, yields, any, bind, choose, never}
-use Rattle.codegen.proofs.Shapes.{ends-last, ends-same}
+use Rattle.codegen.proofs.Shapes.{ends-last, ends-same, prologue-few}
 use Rattle.utils.specs.Answers.{lent, counted}
 use Rattle.utils.specs.declared.CountResult.{CountResult}
 use Rattle.utils.specs.Makes.{Makes, Fits, Ready, then}
 use Rattle.utils.proofs.Made.{Going, begins, next-ready, next, finishes}
-use Rattle.frame.proofs.Prologue.{few-stores}
 use Rattle.body.specs.declared.Passed.{Passed}
 use Rattle.generation.specs.declared.pass.Counted.{Counted}
 use Rattle.generation.specs.Answers.{countedOutcome}
-use Rattle.body.specs.Body.{mostBefore, bodyOf, withoutPlace, passedOf}
+use Rattle.body.specs.Body.{bodyOf, withoutPlace, passedOf}
 use Rattle.generation.specs.Pass.{listOf, ending}
 use Rattle.generation.specs.Survey.{countedList, framed}
 
@@ -54,26 +55,30 @@ unfolding endsInRet
 both-open xs [] h k x e = ends-same (x ∷ xs) [] refl ∙ h x e
 both-open xs (y ∷ ys) h k x e = ends-last (x ∷ xs) y ys ∙ k x e
 
-pub record Short (is : List Instruction) : Type 0 where
-  pub few : length is ≤ mostBefore
-  pub ends : endsInRet is ≡ false
+copies-open : (ctx : Context) (j : ℕ) (ps : List VarId) → Yields (copyParams ctx j ps) Open
+unfolding copyParams endsInRet
+copies-open ctx j [] = yields (λ x e. e)
+copies-open ctx j (p ∷ ps) =
+    bind (any (varSize p)) (λ size a. bind (any (convertVar ctx p)) (λ var b. bind (copies-open ctx (suc j) ps) (λ rest h. yields (λ x e. h _ refl))))
 
-stores-few : (ctx : Context) (float : Bool) (ps : List VarId) → Yields (storeParams ctx float 0 ps) (λ is. (length is ≤ 8) × Open is)
-stores-few ctx float ps = record { of = λ is e. (few-stores ctx float ps {writes = false} {at = 0} {old = []} (record { says = sym (ap counted e); bytes = refl }), stores-open ctx float 0 ps .of is e) }
+-- it does not end in Ret
+abbrev pub Unended : List Instruction → Type 0
+Unended is = endsInRet is ≡ false
 
-pub prologue-short : (ctx : Context) (bytes : ℕ) (ps : List VarId) → Yields (funcPrologue ctx bytes ps) Short
+pub prologue-open : (ctx : Context) (bytes : ℕ) (ps : List VarId) → Yields (funcPrologue ctx bytes ps) Unended
 unfolding funcPrologue endsInRet
-prologue-short ctx bytes ps =
-    bind (stores-few ctx false ps) (λ words h.
-    bind (stores-few ctx true ps) (λ floats k.
-    yields (record { few = rw length-append (omega (arith, h .0, k .0)); ends = both-open words floats (h .1) (k .1) _ refl })))
+prologue-open ctx bytes ps =
+    bind (stores-open ctx false 0 ps) (λ words h.
+    bind (stores-open ctx true 0 ps) (λ floats k.
+    bind (copies-open ctx 0 (excess isFloatParam 0 0 ps)) (λ copies l.
+    yields (both-open words (floats ++ copies) h (both-open floats copies k l) _ refl))))
 
-pub first-few : (ctx : Context) (bytes : ℕ) (ps : List VarId) {n : ℕ} → ok n ≡ counted (funcPrologue ctx bytes ps) → n ≤ mostBefore
-first-few ctx bytes ps {n} = go (funcPrologue ctx bytes ps) (prologue-short ctx bytes ps)
+pub first-few : (ctx : Context) (bytes : ℕ) (s : List ℕ) (m from : ℕ) {n : ℕ} → m ≤ 256 → ok n ≡ counted (funcPrologue ctx bytes (varsAt s m from)) → n ≤ mostInPrologue 256
+first-few ctx bytes s m from {n} few = go (funcPrologue ctx bytes (varsAt s m from)) (prologue-few ctx bytes (varsAt s m from))
   where
-    go : (r : Result (List Instruction)) → Yields r Short → ok n ≡ counted r → n ≤ mostBefore
-    go (ok is) y e = let l : n ≡ length is = let z = e in cc in omega (arith, y .of is refl .few)
-    go (types.refused m) y e = absurd (never (sym e))
+    go : (r : Result (List Instruction)) → Yields r (λ is. length is ≤ mostInPrologue (length (varsAt s m from))) → ok n ≡ counted r → n ≤ mostInPrologue 256
+    go (ok is) y e = let l : n ≡ length is = let z = e in cc in omega (arith, y .of is refl, vars-length s m from, few)
+    go (types.refused q) y e = absurd (never (sym e))
 
 -- ---- the epilogue
 
@@ -105,8 +110,8 @@ joined-long : (xs ys : List Instruction) → endsInRet xs ≡ false → length (
 joined-long xs ys o = rw (joined-is xs ys o, length-append, length-append) refl
 
 -- how many records there are
-pub list-counted : (p : Result (List Instruction)) (b : Outcome (List Instruction)) → Yields p Short → countedList p (passedOf b) ≡ countedOutcome (joined p b)
-list-counted (ok xs) (accepted ys) h = ap accepted (sym (joined-long xs ys (h .of xs refl .ends)))
+pub list-counted : (p : Result (List Instruction)) (b : Outcome (List Instruction)) → Yields p Unended → countedList p (passedOf b) ≡ countedOutcome (joined p b)
+list-counted (ok xs) (accepted ys) h = ap accepted (sym (joined-long xs ys (h .of xs refl)))
 list-counted (ok xs) (refused n i) h = refl
 list-counted (types.refused n) (accepted ys) h = refl
 list-counted (types.refused n) (refused m i) h = refl
@@ -132,9 +137,9 @@ retOf (ok ys) = endsInRet ys
 retOf (types.refused n) = true
 
 -- The list is made of its three parts in turn.
-in-turn : (p : Result (List Instruction)) (b : Outcome (List Instruction)) → Yields p Short →
+in-turn : (p : Result (List Instruction)) (b : Outcome (List Instruction)) → Yields p Unended →
     withoutPlace (joined p b) ≡ then p (then (withoutPlace b) (ok (ending (retOf (withoutPlace b)))))
-in-turn (ok xs) (accepted ys) h = ap ok (joined-is xs ys (h .of xs refl .ends) ∙ append-assoc xs ys (ending (endsInRet ys)))
+in-turn (ok xs) (accepted ys) h = ap ok (joined-is xs ys (h .of xs refl) ∙ append-assoc xs ys (ending (endsInRet ys)))
 in-turn (ok xs) (refused n i) h = refl
 in-turn (types.refused n) b h = refl
 
@@ -162,7 +167,7 @@ module _ (tables offsets : List ℕ) (bytes : ℕ) (s : List ℕ) (n m : ℕ) wh
 
   module _ (f : n ≡ cellAt s 0) (g : m ≡ cellAt s 1) (old : List ℕ) (room : Ready true whole 0 (length old)) where
     start : Going true whole 0 old (then first (then body (ok last))) 0 old
-    start = begins true whole (then first (then body (ok last))) 0 old (sym (in-turn first (bodyOf tables offsets s) (prologue-short _ _ _)) ∙ ap withoutPlace (list-is tables offsets bytes s f g))
+    start = begins true whole (then first (then body (ok last))) 0 old (sym (in-turn first (bodyOf tables offsets s) (prologue-open _ _ _)) ∙ ap withoutPlace (list-is tables offsets bytes s f g))
 
     pub first-ready : Ready true first 0 (length old)
     first-ready = next-ready start room first (then body (ok last)) refl refl
@@ -171,8 +176,8 @@ module _ (tables offsets : List ℕ) (bytes : ℕ) (s : List ℕ) (n m : ℕ) wh
     first-never r = room-made first-ready (r .says)
 
     module _ {x : ℕ} {mid : List ℕ} (made : Makes true first 0 old mid (CountResult.Records x)) where
-      pub first-short : x ≤ mostBefore
-      first-short = first-few _ _ _ (made .says)
+      pub first-short : m ≤ 256 → x ≤ mostInPrologue 256
+      first-short few = first-few _ _ _ _ _ few (made .says)
 
       behind-first : Going true whole 0 old (then body (ok last)) x mid
       behind-first = let z : 0 + x ≡ x = omega arith in rw z at (next start room first (then body (ok last)) refl refl made)

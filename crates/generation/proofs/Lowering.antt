@@ -46,7 +46,7 @@ use Rattle.generation.specs.Pass.{listOf}
 use Rattle.generation.specs.Survey.{Opens, LendsIf, countedList, rounded, framed, sizedThen, countedSays}
 use Rattle.body.proofs.Heads.{sheet-head, head-right, head-total}
 use Rattle.body.proofs.Running.{survey-laid, survey-wrong}
-use Rattle.generation.proofs.Listing.{prologue-short, list-is, list-counted}
+use Rattle.generation.proofs.Listing.{prologue-open, list-is, list-counted}
 
 -- ---- the offsets
 
@@ -120,7 +120,7 @@ module _ (tables s : List ℕ) where
     rest-is : (bytes : ℕ) → rest bytes ≡ countedOutcome (listOf tables offsets bytes s)
     rest-is bytes =
         list-counted (prologue bytes) (bodyOf tables offsets s)
-        (prologue-short (lent tables offsets) bytes (varsAt s (cellAt s 1) (paramsFrom s)))
+        (prologue-open (lent tables offsets) bytes (varsAt s (cellAt s 1) (paramsFrom s)))
         ∙ ap countedOutcome (list-is tables offsets bytes s refl refl)
 
     laid-next : {x : Checked} → sheetCheck s ≡ x → compiled tables s ≡ checked x (λ u. generate (tablesOf tables) (functionOf s))

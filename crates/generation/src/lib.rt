@@ -26,7 +26,7 @@ pub enum Answer {
     Refused(u64, u64),
 }
 
-// It counts the records that a sheet needs. The refusals are 1 to 8.
+// It counts the records that a sheet needs. The refusals are 1 to 7.
 pub fn count(tables: &[u8], sheet: &[u8]) -> Answer
     ensures { λ r. ⌜ answerSays r ≡ countedOutcome (compiled (now (tables .entry)) (now (sheet .entry))) ⌝ }
 {

@@ -3,3 +3,5 @@ pub mod Ranks
 pub mod Sources
 pub mod Made
 pub mod Looked
+pub mod Rows
+pub mod Beyond

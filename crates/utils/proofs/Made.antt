@@ -55,7 +55,7 @@ makes-as e h = rw e h
 
 -- ---- makers one after the other: what is left to make, behind what has been made, is the whole
 
-before-none : (r : Result (List Instruction)) → before [] r ≡ r
+pub before-none : (r : Result (List Instruction)) → before [] r ≡ r
 before-none (ok is) = refl
 before-none (refused n) = refl
 

@@ -2,4 +2,5 @@ pub mod Answers
 pub mod Kinds
 pub mod Sources
 pub mod Slots
+pub mod Excess
 pub mod Makes

@@ -30,6 +30,7 @@ abbrev pub isStringBase : Base → Bool
 isStringBase Base.Rbp = false
 isStringBase Base.String = true
 isStringBase Base.Float = false
+isStringBase Base.Rsp = false
 
 abbrev pub isString : Operand → Bool
 isString Operand.NoOperand = false

@@ -23,9 +23,11 @@ use x86::record::put_instruction;
 use x86::record::put_other;
 use x86::register::Register;
 ghost use mathlib.Core.Path.{_≡_};
+ghost use mathlib.Core.List.{[], _∷_};
 ghost use Prim.Native.Nat.{_+_, _≤_};
 ghost use lib.ListN.{length};
 ghost use Rattle.cells.specs.Cells.{cells, minus, write};
+ghost use Rattle.ir.specs.Types.{ok};
 ghost use Rattle.ir.specs.Function.{varAt, operandAt};
 ghost use Rattle.x86.specs.Records.{recordOf, recordBytes};
 ghost use Rattle.ir.specs.Answers.{numberSays};
@@ -256,6 +258,7 @@ fn is_string(src: Operand) -> bool
                 Base::Rbp => false,
                 Base::String => true,
                 Base::Float => false,
+                Base::Rsp => false,
             }
         }
         Operand::NoOperand => false,
@@ -367,6 +370,17 @@ pub fn put_load(out: &mut [u8], at: usize, reg: Register, src: Operand, size: Si
             size,
         },
     );
+}
+
+// A record that asks for no look-up.
+pub fn one_record(out: &mut [u8], at: usize, i: Instruction, write: bool) -> CountResult
+    requires { ⌜ Ready write (ok (i ∷ [])) at (length (now out)) ⌝ }
+    ensures { λ r. ⌜ Makes write (ok (i ∷ [])) at (now (out .entry)) (now (out .exit)) r ⌝ }
+{
+    if write {
+        put_instruction(out, at, i);
+    }
+    CountResult::Records(1)
 }
 
 // `load_operand` with no size given: the record that brings an operand, at its own size, into a register.

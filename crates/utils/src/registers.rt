@@ -1,9 +1,12 @@
-// `PARAM_REGS` and `PARAM_FREGS` of Krc's codegen/instructions.rs: the registers of parameters and arguments.
+// `PARAM_REGS` and `PARAM_FREGS` of Krc's codegen/instructions.rs: the registers of parameters and arguments; and what is in excess of them (M-112).
 use x86::register::Register;
 ghost use mathlib.Core.Path.{_≡_};
+ghost use Prim.Native.Nat.{_≤_};
 ghost use lib.ListN.{length, getD};
 ghost use Rattle.x86.specs.Registers.{RAX};
 ghost use Rattle.codegen.specs.Frame.{registersOf};
+ghost use Rattle.codegen.specs.Instructions.{registerOf};
+ghost use Rattle.utils.specs.Excess.{isBeyond, behindOne};
 
 // The register of the parameter of rank `k` among those that are floats, or among those that are not.
 pub fn param_register(float: bool, k: u64) -> Register
@@ -39,4 +42,67 @@ pub fn registers(float: bool) -> u64
     ensures { λ r. ⌜ r ≡ length (registersOf float) ⌝ }
 {
     if float { 8 } else { 6 }
+}
+
+// How many general registers, XMM registers and eightbytes of the stack the arguments or parameters before one have taken.
+pub struct Taken {
+    pub words: u64,
+    pub floats: u64,
+    pub stack: u64,
+}
+
+impl Taken {
+    pub const NONE: Taken = Taken {
+        words: 0,
+        floats: 0,
+        stack: 0,
+    };
+
+    // It finds the registers of its kind taken.
+    pub fn is_beyond(self, float: bool) -> bool
+        ensures { λ r. ⌜ r ≡ isBeyond float self ⌝ }
+    {
+        if float {
+            8 <= self.floats
+        } else {
+            6 <= self.words
+        }
+    }
+
+    // The register that it finds.
+    pub fn register(self, float: bool) -> Register
+        ensures { λ r. ⌜ r ≡ registerOf float (self .words) (self .floats) ⌝ }
+    {
+        if float {
+            param_register(true, self.floats)
+        } else {
+            param_register(false, self.words)
+        }
+    }
+
+    // With it.
+    pub fn with(self, float: bool) -> Taken
+        requires { ⌜ self .stack ≤ 256 ⌝ }
+        ensures { λ r. ⌜ r ≡ behindOne float self ⌝ }
+    {
+        if self.is_beyond(float) {
+            return Taken {
+                words: self.words,
+                floats: self.floats,
+                stack: self.stack + 1,
+            };
+        }
+        if float {
+            return Taken {
+                words: self.words,
+                floats: self.floats + 1,
+                stack: self.stack,
+            };
+        }
+        Taken {
+            words: self.words + 1,
+            floats: self.floats,
+            stack: self.stack,
+        }
+    }
 }

@@ -1,21 +1,18 @@
-use Rattle.codegen.specs.Instructions.{loadArgument}
-use Rattle.calls.proofs.Parts.{no-rank, has-rank}
-use Rattle.utils.proofs.Made.{no-list}
+use Rattle.utils.proofs.Made.{ready-as, makes-as}
+use Rattle.utils.proofs.Rows.{none-made}
+use Rattle.calls.proofs.Loads.{load-beyond, load-within}
 use borrow.Author.Needs.{needs}
 use Rattle.calls.proofs.load_argument.Statement.{statement}
 use Rattle.calls.proofs.load_argument.Tie as tie
 
 returns : tie.Need-returns
-unfolding loadArgument
-returns c = no-list (rw (no-rank (c .before .registers .ensures) (c .if1 .taken)))
+returns c = none-made (load-beyond _ (c .before .before .before .before .before .args .taken) (c .before .before .before .before .before .args .float) _ (c .before .is-beyond .ensures) (c .if1 .taken))
 
 load-operand-requires : tie.Need-load-operand-requires
-unfolding loadArgument
-load-operand-requires c κs = rw (c .before .param-register .ensures) (rw (has-rank (c .before .before .before .registers .ensures) (c .before .before .if1 .left)) at (c .before .before .before .before .before .before .before .pre))
+load-operand-requires c κs = rw (c .before .register .ensures) (ready-as (load-within _ (c .before .before .before .before .before .before .before .args .taken) (c .before .before .before .before .before .before .before .args .float) _ (c .before .before .before .is-beyond .ensures) (c .before .before .if1 .left)) (c .before .before .before .before .before .before .before .pre))
 
 returns-2 : tie.Need-returns-2
-unfolding loadArgument
-returns-2 c = rw (has-rank (c .before .before .before .before .before .before .registers .ensures) (c .before .before .before .before .before .if1 .left), ← c .before .before .before .before .param-register .ensures) (c .before .before .load-operand .ensures)
+returns-2 c = makes-as (load-within _ (c .before .before .before .before .before .before .before .before .before .before .args .taken) (c .before .before .before .before .before .before .before .before .before .before .args .float) _ (c .before .before .before .before .before .before .is-beyond .ensures) (c .before .before .before .before .before .if1 .left)) (rw (c .before .before .before .before .register .ensures) at (c .before .before .load-operand .ensures))
 
 pub load-argument-spec : {M : Type 1} → statement M
 load-argument-spec =

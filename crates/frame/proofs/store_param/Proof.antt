@@ -1,4 +1,5 @@
-use Rattle.frame.proofs.Stores.{other-kind, no-register-left, has-register, none-made}
+use Rattle.frame.proofs.Stores.{other-kind, no-register-left, has-register}
+use Rattle.utils.proofs.Rows.{none-made}
 use Rattle.utils.proofs.Made.{ready-as, makes-as}
 use borrow.Author.Needs.{needs}
 use Rattle.frame.proofs.store_param.Statement.{statement}

@@ -42,11 +42,11 @@ returns-2 c =
 
 add-t30 : tie.Need-add-t30
 add-t30 c =
-    omega (arith, first-few _ _ _ (sym (told countSays (c .before .before .before .before .before .before .before .func-prologue .ensures .says) (c .before .before .before .before .first .given .1))), ap madeBy (c .before .body .given .1), c .before .before .before .before .before .before .before .before .before .before .before .before .before .before .before .before .before .pre .1 .1)
+    omega (arith, first-few _ _ _ _ _ (omega (arith, head-params _ (c .before .before .before .before .before .before .before .before .before .before .before .before .before .before .before .before .before .pre .0), c .before .before .before .before .before .before .before .before .before .cell-at2 .ensures)) (sym (told countSays (c .before .before .before .before .before .before .before .func-prologue .ensures .says) (c .before .before .before .before .first .given .1))), ap madeBy (c .before .body .given .1), c .before .before .before .before .before .before .before .before .before .before .before .before .before .before .before .before .before .pre .1 .1)
 
 add-t32 : tie.Need-add-t32
 add-t32 c =
-    omega (arith, first-few _ _ _ (sym (told countSays (c .before .before .before .before .before .before .before .before .func-prologue .ensures .says) (c .before .before .before .before .before .first .given .1))), ap madeBy (c .before .before .body .given .1), c .before .before .before .before .before .before .before .before .before .before .before .before .before .before .before .before .before .before .pre .1 .1, c .ending .ensures .1)
+    omega (arith, first-few _ _ _ _ _ (omega (arith, head-params _ (c .before .before .before .before .before .before .before .before .before .before .before .before .before .before .before .before .before .before .pre .0), c .before .before .before .before .before .before .before .before .before .before .cell-at2 .ensures)) (sym (told countSays (c .before .before .before .before .before .before .before .before .func-prologue .ensures .says) (c .before .before .before .before .before .first .given .1))), ap madeBy (c .before .before .body .given .1), c .before .before .before .before .before .before .before .before .before .before .before .before .before .before .before .before .before .before .pre .1 .1, c .ending .ensures .1)
 
 returns-3 : tie.Need-returns-3
 returns-3 c =
