@@ -16,6 +16,7 @@ use x86::enums::ConditionCode;
 use x86::enums::Instruction;
 use x86::enums::Operand;
 use x86::enums::Size;
+use x86::forms::put_set_cc;
 use x86::record::put_instruction;
 use x86::register::Register;
 ghost use mathlib.Core.Path.{_≡_};
@@ -159,7 +160,7 @@ fn put_store(out: &mut [u8], at: usize, var: Operand, stored: Size, more: More)
     match more {
         More::Nothing => put_instruction(out, at, store),
         More::Parity(second, join) => {
-            put_instruction(
+            put_set_cc(
                 out,
                 at,
                 Instruction::SetCC {
@@ -213,7 +214,7 @@ fn put_compared(
             size,
         },
     );
-    put_instruction(
+    put_set_cc(
         out,
         at + 192,
         Instruction::SetCC {

@@ -21,6 +21,11 @@ use x86::enums::Prefix;
 use x86::enums::Size;
 use x86::enums::StackOp;
 use x86::enums::StringOp;
+use x86::forms::put_ctrl;
+use x86::forms::put_label;
+use x86::forms::put_lea;
+use x86::forms::put_prefix;
+use x86::forms::put_stack;
 use x86::record::put_instruction;
 use x86::register::Register;
 ghost use mathlib.Core.Path.{_≡_};
@@ -77,7 +82,7 @@ pub fn func_epilogue(out: &mut [u8], at: usize)
 {
     let rbp = Operand::Reg(Register::RBP);
     put_instruction(out, at, mov(Operand::Reg(Register::RSP), rbp, Size::NoSize));
-    put_instruction(
+    put_stack(
         out,
         at + 64,
         Instruction::Stack {
@@ -86,7 +91,7 @@ pub fn func_epilogue(out: &mut [u8], at: usize)
             size: Size::NoSize,
         },
     );
-    put_instruction(
+    put_ctrl(
         out,
         at + 128,
         Instruction::Ctrl {
@@ -218,7 +223,7 @@ fn put_zero(out: &mut [u8], at: usize, t: Zeroed)
     ensures { λ _. ⌜ now (out .exit) ≡ write (now (out .entry)) at (listBytes (zeroOf t)) ⌝ }
 {
     let var = t.var;
-    put_instruction(
+    put_lea(
         out,
         at,
         Instruction::Lea {
@@ -241,7 +246,7 @@ fn put_zero(out: &mut [u8], at: usize, t: Zeroed)
         at + 128,
         mov(Operand::Reg(Register::RAX), Operand::Imm(0), Size::U64),
     );
-    put_instruction(
+    put_prefix(
         out,
         at + 192,
         Instruction::Prefix {
@@ -297,7 +302,7 @@ pub fn generate_label(labels: u64, id: u64, out: &mut [u8], at: usize, write: bo
     match label_at(labels, id) {
         Number::Is(label) => {
             if write {
-                put_instruction(out, at, Instruction::Label(label));
+                put_label(out, at, Instruction::Label(label));
             }
             CountResult::Records(1)
         }
@@ -312,7 +317,7 @@ pub fn generate_jump(labels: u64, id: u64, out: &mut [u8], at: usize, write: boo
     match label_at(labels, id) {
         Number::Is(label) => {
             if write {
-                put_instruction(
+                put_ctrl(
                     out,
                     at,
                     Instruction::Ctrl {
@@ -357,7 +362,7 @@ fn put_branch(out: &mut [u8], at: usize, t: Branch)
             size: Size::U8,
         },
     );
-    put_instruction(
+    put_ctrl(
         out,
         at + 128,
         Instruction::Ctrl {

@@ -17,10 +17,11 @@ use x86::enums::ExtendOp;
 use x86::enums::Instruction;
 use x86::enums::Operand;
 use x86::enums::Size;
+use x86::forms::put_extend;
+use x86::forms::put_lea;
 use x86::mem_address::Base;
 use x86::mem_address::MemAddress;
 use x86::record::put_instruction;
-use x86::record::put_other;
 use x86::register::Register;
 ghost use mathlib.Core.Path.{_≡_};
 ghost use mathlib.Core.List.{[], _∷_};
@@ -309,7 +310,7 @@ pub fn put_load(out: &mut [u8], at: usize, reg: Register, src: Operand, size: Si
     ensures { λ _. ⌜ now (out .exit) ≡ write (now (out .entry)) at (recordBytes (recordOf (loadOf reg src size))) ⌝ }
 {
     if is_string(src) {
-        put_other(
+        put_lea(
             out,
             at,
             Instruction::Lea {
@@ -347,7 +348,7 @@ pub fn put_load(out: &mut [u8], at: usize, reg: Register, src: Operand, size: Si
             );
             return;
         }
-        put_other(
+        put_extend(
             out,
             at,
             Instruction::Extend {

@@ -13,7 +13,7 @@ use Rattle.comparisons.proofs.put_compared.Tie as tie
 returns : tie.Need-returns
 returns c =
     both _ _ _ _ _ _ _
-    (puts (first (c .before .before .before .before .before .before .before .before .before .before .before .before .before .before .before .before .before .before .put-load .ensures) (put (c .before .before .before .before .before .before .before .before .before .before .before .before .before .before .put-load2 .ensures) (put (c .before .before .before .before .before .before .before .before .before .before .put-instruction .ensures) (put (c .before .before .before .before .before .before .put-instruction2 .ensures) done)))) (omega arith))
+    (puts (first (c .before .before .before .before .before .before .before .before .before .before .before .before .before .before .before .before .before .before .put-load .ensures) (put (c .before .before .before .before .before .before .before .before .before .before .before .before .before .before .put-load2 .ensures) (put (c .before .before .before .before .before .before .before .before .before .before .put-instruction .ensures) (put (c .before .before .before .before .before .before .put-set-cc .ensures) done)))) (omega arith))
     (c .before .before .put-store .ensures) (omega arith)
     (omega (arith, length-append (moreOf (c .before .before .before .before .before .before .before .before .before .before .before .before .before .before .before .before .before .before .before .before .before .args .more)) (move (c .before .before .before .before .before .before .before .before .before .before .before .before .before .before .before .before .before .before .before .before .before .args .t .var) (Operand.Reg RAX) (c .before .before .before .before .before .before .before .before .before .before .before .before .before .before .before .before .before .before .before .before .before .args .t .stored) ∷ [])))
 

@@ -5,7 +5,7 @@ use Rattle.instructions.proofs.func_epilogue.Statement.{statement}
 use Rattle.instructions.proofs.func_epilogue.Tie as tie
 
 returns : tie.Need-returns
-returns c = puts (first (rw (c .before .before .before .before .before .before .before .before .before .before .before .mov .ensures) at (c .before .before .before .before .before .before .before .before .before .before .put-instruction .ensures)) (put (c .before .before .before .before .before .before .put-instruction2 .ensures) (put (c .before .before .put-instruction3 .ensures) done))) (omega arith)
+returns c = puts (first (rw (c .before .before .before .before .before .before .before .before .before .before .before .mov .ensures) at (c .before .before .before .before .before .before .before .before .before .before .put-instruction .ensures)) (put (c .before .before .before .before .before .before .put-stack .ensures) (put (c .before .before .put-ctrl .ensures) done))) (omega arith)
 
 pub func-epilogue-spec : {M : Type 1} → statement M
 func-epilogue-spec =

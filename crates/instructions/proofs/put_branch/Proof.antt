@@ -5,7 +5,7 @@ use Rattle.instructions.proofs.put_branch.Statement.{statement}
 use Rattle.instructions.proofs.put_branch.Tie as tie
 
 returns : tie.Need-returns
-returns c = puts (first (c .before .before .before .before .before .before .before .before .before .before .put-load .ensures) (put (c .before .before .before .before .before .before .put-instruction .ensures) (put (c .before .before .put-instruction2 .ensures) done))) (omega arith)
+returns c = puts (first (c .before .before .before .before .before .before .before .before .before .before .put-load .ensures) (put (c .before .before .before .before .before .before .put-instruction .ensures) (put (c .before .before .put-ctrl .ensures) done))) (omega arith)
 
 pub put-branch-spec : {M : Type 1} → statement M
 put-branch-spec =

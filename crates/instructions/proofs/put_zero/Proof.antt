@@ -5,7 +5,7 @@ use Rattle.instructions.proofs.put_zero.Statement.{statement}
 use Rattle.instructions.proofs.put_zero.Tie as tie
 
 returns : tie.Need-returns
-returns c = puts (first (c .before .before .before .before .before .before .before .before .before .before .before .before .before .before .before .before .put-instruction .ensures) (put (rw (c .before .before .before .before .before .before .before .before .before .before .before .before .mov .ensures) at (c .before .before .before .before .before .before .before .before .before .before .before .put-instruction2 .ensures)) (put (rw (c .before .before .before .before .before .before .before .mov2 .ensures) at (c .before .before .before .before .before .before .put-instruction3 .ensures)) (put (c .before .before .put-instruction4 .ensures) done)))) (omega arith)
+returns c = puts (first (c .before .before .before .before .before .before .before .before .before .before .before .before .before .before .before .before .put-lea .ensures) (put (rw (c .before .before .before .before .before .before .before .before .before .before .before .before .mov .ensures) at (c .before .before .before .before .before .before .before .before .before .before .before .put-instruction .ensures)) (put (rw (c .before .before .before .before .before .before .before .mov2 .ensures) at (c .before .before .before .before .before .before .put-instruction2 .ensures)) (put (c .before .before .put-prefix .ensures) done)))) (omega arith)
 
 pub put-zero-spec : {M : Type 1} → statement M
 put-zero-spec =

@@ -5,7 +5,7 @@ use Rattle.utils.proofs.put_load.Tie as tie
 
 returns : tie.Need-returns
 unfolding loadFrom
-returns c = simp (← c .before .before .before .before .before .is-string .ensures, c .before .before .before .before .if1 .taken) (c .before .before .put-other .ensures)
+returns c = simp (← c .before .before .before .before .before .is-string .ensures, c .before .before .before .before .if1 .taken) (c .before .before .put-lea .ensures)
 
 returns-2 : tie.Need-returns-2
 unfolding loadFrom
@@ -17,7 +17,7 @@ returns-3 c = simp (← c .before .before .before .before .before .before .befor
 
 returns-4 : tie.Need-returns-4
 unfolding loadFrom
-returns-4 c = simp (← c .before .before .before .before .before .before .before .before .before .before .before .is-string .ensures, c .before .before .before .before .before .before .before .before .before .before .if1 .left, ← c .before .before .before .before .before .before .before .before .before .is-xmm .ensures, c .before .before .before .before .before .before .before .before .if2 .left, ← c .before .before .before .before .before .before .before .is-one-byte .ensures, c .before .before .before .before .before .before .if3 .taken, ← c .before .before .before .before .before .is-constant .ensures, c .before .before .before .before .if4 .left) (c .before .before .put-other2 .ensures)
+returns-4 c = simp (← c .before .before .before .before .before .before .before .before .before .before .before .is-string .ensures, c .before .before .before .before .before .before .before .before .before .before .if1 .left, ← c .before .before .before .before .before .before .before .before .before .is-xmm .ensures, c .before .before .before .before .before .before .before .before .if2 .left, ← c .before .before .before .before .before .before .before .is-one-byte .ensures, c .before .before .before .before .before .before .if3 .taken, ← c .before .before .before .before .before .is-constant .ensures, c .before .before .before .before .if4 .left) (c .before .before .put-extend .ensures)
 
 returns-5 : tie.Need-returns-5
 unfolding loadFrom
