@@ -14,8 +14,10 @@ use Rattle.ir.specs.Function.{BinaryOp, binaryOp}
 use Rattle.x86.specs.declared.enums.ConditionCode.{ConditionCode}
 use Rattle.x86.specs.Registers.{RDX}
 use Rattle.codegen.specs.Context.{Context}
-use Rattle.codegen.specs.Arithmetic.{division, comparison, floatBinary, integerBinary}
+use Rattle.codegen.specs.Arithmetic.{division, comparison, floatBinary, integerBinary, generateBinary}
+use Rattle.arithmetic.specs.declared.Chosen.{Chosen}
 use Rattle.arithmetic.specs.Codes.{comparisonCode}
+use Rattle.arithmetic.specs.Choices.{chosenList, Chooses}
 
 -- ---- some entries of a table, and what is behind all but its last
 
@@ -91,3 +93,8 @@ module _ (ctx : Context) (dest : VarId) (left right : IrOp) where
           some 0 13 (λ k b. floatBinary ctx dest b left right ≡ refused 7)
           (refl, (refl, (refl, (refl, (refl, (refl, (refl, (refl, (refl, (refl, (refl, (refl, (refl, tt))))))))))))) op (omega arith) (ltb-true op 13 e)
       go false e = rw (last op (omega (arith, ltb-false op 13 e)))
+
+-- what was chosen, by its case
+pub picked : (ctx : Context) (dest : VarId) (left right : IrOp) (op : ℕ) {r q : Chosen} → Chooses op (dest .ty) r → r ≡ q
+    → generateBinary ctx dest (binaryOp op) left right ≡ chosenList ctx dest left right q
+picked ctx dest left right op h e = rw e at (h .list ctx dest left right refl)

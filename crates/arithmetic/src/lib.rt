@@ -4,10 +4,9 @@ use ir::Type;
 use ir::UnaryOp as IrUnary;
 use ir::read::type_at;
 use operations::division;
-use operations::float_operation;
 use operations::multiplication;
+use operations::one_load;
 use operations::shift;
-use operations::simple_operation;
 use utils::CountResult;
 use utils::OperandResult;
 use utils::SizeResult;
@@ -23,6 +22,7 @@ use x86::enums::Operand;
 use x86::enums::ShiftOp;
 use x86::enums::Size;
 use x86::enums::UnaryOp;
+use x86::forms::put_unary;
 use x86::record::put_instruction;
 use x86::register::Register;
 ghost use mathlib.Core.Path.{_≡_};
@@ -32,34 +32,34 @@ ghost use lib.ListN.{length};
 ghost use Rattle.cells.specs.Cells.{cells, write};
 ghost use Rattle.ir.specs.Types.{isUnsigned};
 ghost use Rattle.ir.specs.Function.{varAt, operandAt, binaryOp};
-ghost use Rattle.x86.specs.Records.{listBytes};
-ghost use Rattle.codegen.specs.Arithmetic.{floatBinary, integerBinary, generateBinary, signBit, generateUnary};
+ghost use Rattle.x86.specs.Records.{recordOf, recordBytes, listBytes};
+ghost use Rattle.codegen.specs.Arithmetic.{generateBinary, signBit, generateUnary};
 ghost use Rattle.utils.specs.Answers.{lent};
 ghost use Rattle.utils.specs.Makes.{Makes, Ready};
 ghost use Rattle.arithmetic.specs.Codes.{comparisonCode};
+ghost use Rattle.arithmetic.specs.Choices.{ChoosesFloat, ChoosesInteger, Chooses};
 ghost use Rattle.arithmetic.specs.Unary.{changedSays, lookUnary, changedOf, signOf, unaryRecord, isNegation, flipsSign};
 
+// How a binary operation is lowered. A load into a register has the operation on it and the store behind it.
+pub enum Chosen {
+    OneLoad(Register, BinOp, BinOp),
+    Compare(ConditionCode),
+    Shift(ShiftOp),
+    Multiply,
+    Divide(Register),
+    Refused(u64),
+}
+
 // Only + - * / are done on a float.
-fn float_binary(
-    tables: &[u8],
-    offsets: &[u64],
-    s: &[u8],
-    k: usize,
-    op: u64,
-    out: &mut [u8],
-    at: usize,
-    write: bool,
-) -> CountResult
-    requires { ⌜ k + 13 ≤ cells (now s) ⌝ }
-    requires { ⌜ Ready write (floatBinary (lent (now tables) (now offsets)) (varAt (now s) (k + 2)) (binaryOp op) (operandAt (now s) (k + 5)) (operandAt (now s) (k + 9))) at (length (now out)) ⌝ }
-    ensures { λ r. ⌜ Makes write (floatBinary (lent (now (tables .entry)) (now (offsets .entry))) (varAt (now (s .entry)) (k + 2)) (binaryOp op) (operandAt (now (s .entry)) (k + 5)) (operandAt (now (s .entry)) (k + 9))) at (now (out .entry)) (now (out .exit)) r ⌝ }
+fn float_binary(op: u64) -> Chosen
+    ensures { λ r. ⌜ ChoosesFloat op r ⌝ }
 {
     match op {
-        13 => float_operation(tables, offsets, s, k, BinOp::AddF, out, at, write),
-        14 => float_operation(tables, offsets, s, k, BinOp::SubF, out, at, write),
-        15 => float_operation(tables, offsets, s, k, BinOp::MulF, out, at, write),
-        16 => float_operation(tables, offsets, s, k, BinOp::DivF, out, at, write),
-        _ => CountResult::Refused(7),
+        13 => Chosen::OneLoad(Register::XMM0, BinOp::AddF, BinOp::StoreF),
+        14 => Chosen::OneLoad(Register::XMM0, BinOp::SubF, BinOp::StoreF),
+        15 => Chosen::OneLoad(Register::XMM0, BinOp::MulF, BinOp::StoreF),
+        16 => Chosen::OneLoad(Register::XMM0, BinOp::DivF, BinOp::StoreF),
+        _ => Chosen::Refused(7),
     }
 }
 
@@ -88,46 +88,37 @@ fn right_shift(ty: Type) -> ShiftOp
     }
 }
 
-fn integer_binary(
-    tables: &[u8],
-    offsets: &[u64],
-    s: &[u8],
-    k: usize,
-    op: u64,
-    out: &mut [u8],
-    at: usize,
-    write: bool,
-) -> CountResult
-    requires { ⌜ k + 13 ≤ cells (now s) ⌝ }
-    requires { ⌜ Ready write (integerBinary (lent (now tables) (now offsets)) (varAt (now s) (k + 2)) (binaryOp op) (operandAt (now s) (k + 5)) (operandAt (now s) (k + 9))) at (length (now out)) ⌝ }
-    ensures { λ r. ⌜ Makes write (integerBinary (lent (now (tables .entry)) (now (offsets .entry))) (varAt (now (s .entry)) (k + 2)) (binaryOp op) (operandAt (now (s .entry)) (k + 5)) (operandAt (now (s .entry)) (k + 9))) at (now (out .entry)) (now (out .exit)) r ⌝ }
+// The logical pair never reaches the lowering.
+fn integer_binary(op: u64, ty: Type) -> Chosen
+    ensures { λ r. ⌜ ChoosesInteger op ty r ⌝ }
 {
     match op {
-        0..=1 => CountResult::Refused(7),
-        2 => simple_operation(tables, offsets, s, k, BinOp::Or, out, at, write),
-        3 => simple_operation(tables, offsets, s, k, BinOp::Xor, out, at, write),
-        4 => simple_operation(tables, offsets, s, k, BinOp::And, out, at, write),
-        5..=10 => comparison(tables, offsets, s, k, comparison_code(op), out, at, write),
-        11 => shift(tables, offsets, s, k, ShiftOp::Shl, out, at, write),
-        12 => shift(
-            tables,
-            offsets,
-            s,
-            k,
-            right_shift(type_at(s, k + 3)),
-            out,
-            at,
-            write,
-        ),
-        13 => simple_operation(tables, offsets, s, k, BinOp::Add, out, at, write),
-        14 => simple_operation(tables, offsets, s, k, BinOp::Sub, out, at, write),
-        15 => multiplication(tables, offsets, s, k, out, at, write),
-        16 => division(tables, offsets, s, k, Register::RAX, out, at, write),
-        _ => division(tables, offsets, s, k, Register::RDX, out, at, write),
+        0..=1 => Chosen::Refused(7),
+        2 => Chosen::OneLoad(Register::RAX, BinOp::Or, BinOp::Mov),
+        3 => Chosen::OneLoad(Register::RAX, BinOp::Xor, BinOp::Mov),
+        4 => Chosen::OneLoad(Register::RAX, BinOp::And, BinOp::Mov),
+        5..=10 => Chosen::Compare(comparison_code(op)),
+        11 => Chosen::Shift(ShiftOp::Shl),
+        12 => Chosen::Shift(right_shift(ty)),
+        13 => Chosen::OneLoad(Register::RAX, BinOp::Add, BinOp::Mov),
+        14 => Chosen::OneLoad(Register::RAX, BinOp::Sub, BinOp::Mov),
+        15 => Chosen::Multiply,
+        16 => Chosen::Divide(Register::RAX),
+        _ => Chosen::Divide(Register::RDX),
     }
 }
 
-// `dest = left op right`, sized by dest; `op` is a position in Krc's `BinaryOp`. The logical pair never reaches the lowering.
+// By dest's type and the operation's position in Krc's `BinaryOp`.
+fn choose(op: u64, ty: Type) -> Chosen
+    ensures { λ r. ⌜ Chooses op ty r ⌝ }
+{
+    if ty.is_float() {
+        return float_binary(op);
+    }
+    integer_binary(op, ty)
+}
+
+// `dest = left op right`, sized by dest. What is done is chosen first, so that each maker is called from one place, where it is inlined.
 pub fn generate_binary(
     tables: &[u8],
     offsets: &[u64],
@@ -142,11 +133,25 @@ pub fn generate_binary(
     requires { ⌜ Ready write (generateBinary (lent (now tables) (now offsets)) (varAt (now s) (k + 2)) (binaryOp op) (operandAt (now s) (k + 5)) (operandAt (now s) (k + 9))) at (length (now out)) ⌝ }
     ensures { λ r. ⌜ Makes write (generateBinary (lent (now (tables .entry)) (now (offsets .entry))) (varAt (now (s .entry)) (k + 2)) (binaryOp op) (operandAt (now (s .entry)) (k + 5)) (operandAt (now (s .entry)) (k + 9))) at (now (out .entry)) (now (out .exit)) r ⌝ }
 {
-    let ty = type_at(s, k + 3);
-    if ty.is_float() {
-        return float_binary(tables, offsets, s, k, op, out, at, write);
+    match choose(op, type_at(s, k + 3)) {
+        Chosen::OneLoad(reg, op, store) => one_load(
+            tables,
+            offsets,
+            s,
+            k,
+            reg,
+            op,
+            store,
+            out,
+            at,
+            write,
+        ),
+        Chosen::Compare(cc) => comparison(tables, offsets, s, k, cc, out, at, write),
+        Chosen::Shift(op) => shift(tables, offsets, s, k, op, out, at, write),
+        Chosen::Multiply => multiplication(tables, offsets, s, k, out, at, write),
+        Chosen::Divide(result) => division(tables, offsets, s, k, result, out, at, write),
+        Chosen::Refused(n) => CountResult::Refused(n),
     }
-    integer_binary(tables, offsets, s, k, op, out, at, write)
 }
 
 // A source, dest's slot and dest's size.
@@ -192,16 +197,54 @@ fn sign_bit(size: Size) -> u64
     }
 }
 
+// The record of an operation on RAX; the logical not of a Bool flips its lowest bit.
+fn put_operation(out: &mut [u8], at: usize, op: IrUnary, size: Size)
+    requires { ⌜ at + 64 ≤ length (now out) ⌝ }
+    ensures { λ _. ⌜ now (out .exit) ≡ write (now (out .entry)) at (recordBytes (recordOf (unaryRecord op size))) ⌝ }
+{
+    let rax = Operand::Reg(Register::RAX);
+    match op {
+        IrUnary::Neg => put_unary(
+            out,
+            at,
+            Instruction::Unary {
+                op: UnaryOp::Neg,
+                dst: rax,
+                size,
+            },
+        ),
+        IrUnary::BitNot => put_unary(
+            out,
+            at,
+            Instruction::Unary {
+                op: UnaryOp::Not,
+                dst: rax,
+                size,
+            },
+        ),
+        IrUnary::Not => put_instruction(
+            out,
+            at,
+            Instruction::Binary {
+                op: BinOp::Xor,
+                dst: rax,
+                src: Operand::Imm(1),
+                size,
+            },
+        ),
+    }
+}
+
 // A load, a record on RAX, and the store to dest.
-fn put_unary(out: &mut [u8], at: usize, t: Changed, i: Instruction)
+fn put_changed(out: &mut [u8], at: usize, t: Changed, op: IrUnary)
     requires { ⌜ at + 192 ≤ length (now out) ⌝ }
-    ensures { λ _. ⌜ now (out .exit) ≡ write (now (out .entry)) at (listBytes (changedOf i t)) ⌝ }
+    ensures { λ _. ⌜ now (out .exit) ≡ write (now (out .entry)) at (listBytes (changedOf (unaryRecord op (t .size)) t)) ⌝ }
 {
     let src = t.src;
     let var = t.var;
     let size = t.size;
     put_load(out, at, Register::RAX, src, size);
-    put_instruction(out, at + 64, i);
+    put_operation(out, at + 64, op, size);
     put_instruction(out, at + 128, mov(var, Operand::Reg(Register::RAX), size));
 }
 
@@ -228,31 +271,6 @@ fn put_sign(out: &mut [u8], at: usize, t: Changed)
         },
     );
     put_instruction(out, at + 192, mov(var, rax, size));
-}
-
-// The record of an operation on RAX; the logical not of a Bool flips its lowest bit.
-fn unary_record(op: IrUnary, size: Size) -> Instruction
-    ensures { λ r. ⌜ r ≡ unaryRecord op size ⌝ }
-{
-    let rax = Operand::Reg(Register::RAX);
-    match op {
-        IrUnary::Neg => Instruction::Unary {
-            op: UnaryOp::Neg,
-            dst: rax,
-            size,
-        },
-        IrUnary::BitNot => Instruction::Unary {
-            op: UnaryOp::Not,
-            dst: rax,
-            size,
-        },
-        IrUnary::Not => Instruction::Binary {
-            op: BinOp::Xor,
-            dst: rax,
-            src: Operand::Imm(1),
-            size,
-        },
-    }
 }
 
 fn is_negation(op: IrUnary) -> bool
@@ -299,8 +317,7 @@ pub fn generate_unary(
                 return CountResult::Records(4);
             }
             if write {
-                let size = t.size;
-                put_unary(out, at, t, unary_record(op, size));
+                put_changed(out, at, t, op);
             }
             CountResult::Records(3)
         }

@@ -7,6 +7,7 @@ use Rattle.x86.specs.declared.register.Register.{Register}
 use Rattle.x86.specs.declared.enums.Size.{Size}
 use Rattle.x86.specs.declared.enums.Operand.{Operand}
 use Rattle.x86.specs.declared.enums.BinOp.{BinOp}
+use Rattle.x86.specs.declared.enums.ComplexBinOp.{ComplexBinOp}
 use Rattle.x86.specs.declared.enums.Instruction.{Instruction}
 use Rattle.x86.specs.Registers.{RAX, RCX}
 use Rattle.codegen.specs.Context.{Context}
@@ -15,6 +16,7 @@ use Rattle.codegen.specs.Instructions.{move}
 use Rattle.utils.specs.Sources.{sourceOf, loadOf}
 use Rattle.operations.specs.declared.Sides.{Sides}
 use Rattle.operations.specs.declared.SidesResult.{SidesResult}
+use Rattle.operations.specs.declared.Middle.{Middle}
 
 abbrev pub sidesSay : SidesResult → Result Sides
 sidesSay (SidesResult.Are t) = ok t
@@ -45,6 +47,11 @@ lookLoads ctx dest left right = do
 abbrev pub oneLoadOf : Register → BinOp → BinOp → Sides → List Instruction
 oneLoadOf reg op store t =
     loadOf reg (t .left) (t .size) ∷ Instruction.Binary op (Operand.Reg reg) (t .right) (t .size) ∷ Instruction.Binary store (t .var) (Operand.Reg reg) (t .size) ∷ []
+
+-- the one record between two loads and the store
+abbrev pub middleOf : Middle → Size → Instruction
+middleOf Middle.Multiply size = Instruction.ComplexBinary ComplexBinOp.Imul (Operand.Reg RAX) (Operand.Reg RCX) size
+middleOf (Middle.Shift op) size = Instruction.Shift op (Operand.Reg RAX) (Operand.Reg RCX) size
 
 abbrev pub twoLoadsOf : (Size → List Instruction) → Register → Sides → List Instruction
 twoLoadsOf operation result t =

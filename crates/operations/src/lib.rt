@@ -16,6 +16,9 @@ use x86::enums::Operand;
 use x86::enums::ShiftOp;
 use x86::enums::Size;
 use x86::enums::UnaryOp;
+use x86::forms::put_complex_binary;
+use x86::forms::put_shift;
+use x86::forms::put_unary;
 use x86::record::put_instruction;
 use x86::register::Register;
 ghost use mathlib.Core.Path.{_≡_};
@@ -25,11 +28,11 @@ ghost use lib.ListN.{length};
 ghost use Rattle.cells.specs.Cells.{cells, write};
 ghost use Rattle.ir.specs.Function.{varAt, operandAt};
 ghost use Rattle.x86.specs.Registers.{RAX, RCX};
-ghost use Rattle.x86.specs.Records.{listBytes};
-ghost use Rattle.codegen.specs.Arithmetic.{simpleOperation, floatOperation, signInto, dividing, division, multiplication, shift};
+ghost use Rattle.x86.specs.Records.{recordOf, recordBytes, listBytes};
+ghost use Rattle.codegen.specs.Arithmetic.{signInto, dividing, division, multiplication, shift};
 ghost use Rattle.utils.specs.Answers.{lent};
 ghost use Rattle.utils.specs.Makes.{Makes, Ready};
-ghost use Rattle.operations.specs.Loads.{sidesSay, lookOperand, lookLoads, oneLoad, oneLoadOf, twoLoadsOf};
+ghost use Rattle.operations.specs.Loads.{sidesSay, lookOperand, lookLoads, oneLoad, oneLoadOf, middleOf, twoLoadsOf};
 
 // Left's source, right, dest's slot and dest's size.
 pub struct Sides {
@@ -42,6 +45,12 @@ pub struct Sides {
 pub enum SidesResult {
     Are(Sides),
     Refused(u64),
+}
+
+// The one record between two loads and the store: a product, or a shift.
+pub enum Middle {
+    Multiply,
+    Shift(ShiftOp),
 }
 
 // Where right is an operand of the operation itself.
@@ -131,8 +140,8 @@ fn put_one_load(out: &mut [u8], at: usize, t: Sides, reg: Register, op: BinOp, s
     );
 }
 
-// Left into a register, the operation on it and right, and its store to dest.
-fn one_load(
+// Left into a register, the operation on it and right, and its store to dest: `mov rax, left ; op rax, right ; mov [dest], rax`, or the same on XMM0.
+pub fn one_load(
     tables: &[u8],
     offsets: &[u64],
     s: &[u8],
@@ -157,64 +166,6 @@ fn one_load(
         }
         SidesResult::Refused(n) => CountResult::Refused(n),
     }
-}
-
-// `mov rax, left ; op rax, right ; mov [dest], rax`
-pub fn simple_operation(
-    tables: &[u8],
-    offsets: &[u64],
-    s: &[u8],
-    k: usize,
-    op: BinOp,
-    out: &mut [u8],
-    at: usize,
-    write: bool,
-) -> CountResult
-    requires { ⌜ k + 13 ≤ cells (now s) ⌝ }
-    requires { ⌜ Ready write (simpleOperation (lent (now tables) (now offsets)) (varAt (now s) (k + 2)) (operandAt (now s) (k + 5)) (operandAt (now s) (k + 9)) op) at (length (now out)) ⌝ }
-    ensures { λ r. ⌜ Makes write (simpleOperation (lent (now (tables .entry)) (now (offsets .entry))) (varAt (now (s .entry)) (k + 2)) (operandAt (now (s .entry)) (k + 5)) (operandAt (now (s .entry)) (k + 9)) op) at (now (out .entry)) (now (out .exit)) r ⌝ }
-{
-    one_load(
-        tables,
-        offsets,
-        s,
-        k,
-        Register::RAX,
-        op,
-        BinOp::Mov,
-        out,
-        at,
-        write,
-    )
-}
-
-// `movsd xmm0, left ; op xmm0, right ; movsd [dest], xmm0`
-pub fn float_operation(
-    tables: &[u8],
-    offsets: &[u64],
-    s: &[u8],
-    k: usize,
-    op: BinOp,
-    out: &mut [u8],
-    at: usize,
-    write: bool,
-) -> CountResult
-    requires { ⌜ k + 13 ≤ cells (now s) ⌝ }
-    requires { ⌜ Ready write (floatOperation (lent (now tables) (now offsets)) (varAt (now s) (k + 2)) (operandAt (now s) (k + 5)) (operandAt (now s) (k + 9)) op) at (length (now out)) ⌝ }
-    ensures { λ r. ⌜ Makes write (floatOperation (lent (now (tables .entry)) (now (offsets .entry))) (varAt (now (s .entry)) (k + 2)) (operandAt (now (s .entry)) (k + 5)) (operandAt (now (s .entry)) (k + 9)) op) at (now (out .entry)) (now (out .exit)) r ⌝ }
-{
-    one_load(
-        tables,
-        offsets,
-        s,
-        k,
-        Register::XMM0,
-        op,
-        BinOp::StoreF,
-        out,
-        at,
-        write,
-    )
 }
 
 // Cdq for four bytes, else Cqo.
@@ -259,9 +210,9 @@ fn put_dividing(out: &mut [u8], at: usize, unsigned: bool, size: Size)
                 size,
             },
         );
-        put_instruction(out, at + 64, divide(ComplexBinOp::Div, size));
+        put_complex_binary(out, at + 64, divide(ComplexBinOp::Div, size));
     } else {
-        put_instruction(
+        put_unary(
             out,
             at,
             Instruction::Unary {
@@ -270,7 +221,7 @@ fn put_dividing(out: &mut [u8], at: usize, unsigned: bool, size: Size)
                 size,
             },
         );
-        put_instruction(out, at + 64, divide(ComplexBinOp::Idiv, size));
+        put_complex_binary(out, at + 64, divide(ComplexBinOp::Idiv, size));
     }
 }
 
@@ -315,9 +266,31 @@ pub fn division(
     }
 }
 
-fn put_two_loads(out: &mut [u8], at: usize, t: Sides, i: Instruction)
+// RAX and RCX, multiplied or shifted into RAX.
+fn put_middle(out: &mut [u8], at: usize, middle: Middle, size: Size)
+    requires { ⌜ at + 64 ≤ length (now out) ⌝ }
+    ensures { λ _. ⌜ now (out .exit) ≡ write (now (out .entry)) at (recordBytes (recordOf (middleOf middle size))) ⌝ }
+{
+    let dst = Operand::Reg(Register::RAX);
+    let src = Operand::Reg(Register::RCX);
+    match middle {
+        Middle::Multiply => put_complex_binary(
+            out,
+            at,
+            Instruction::ComplexBinary {
+                op: ComplexBinOp::Imul,
+                dst,
+                src,
+                size,
+            },
+        ),
+        Middle::Shift(op) => put_shift(out, at, Instruction::Shift { op, dst, src, size }),
+    }
+}
+
+fn put_two_loads(out: &mut [u8], at: usize, t: Sides, middle: Middle)
     requires { ⌜ at + 256 ≤ length (now out) ⌝ }
-    ensures { λ _. ⌜ now (out .exit) ≡ write (now (out .entry)) at (listBytes (twoLoadsOf (λ size. i ∷ []) RAX t)) ⌝ }
+    ensures { λ _. ⌜ now (out .exit) ≡ write (now (out .entry)) at (listBytes (twoLoadsOf (λ size. middleOf middle size ∷ []) RAX t)) ⌝ }
 {
     let left = t.left;
     let right = t.right;
@@ -325,7 +298,7 @@ fn put_two_loads(out: &mut [u8], at: usize, t: Sides, i: Instruction)
     let size = t.size;
     put_load(out, at, Register::RAX, left, size);
     put_load(out, at + 64, Register::RCX, right, size);
-    put_instruction(out, at + 128, i);
+    put_middle(out, at + 128, middle, size);
     put_instruction(out, at + 192, mov(var, Operand::Reg(Register::RAX), size));
 }
 
@@ -345,18 +318,7 @@ pub fn multiplication(
     match look_loads(tables, offsets, s, k) {
         SidesResult::Are(t) => {
             if write {
-                let size = t.size;
-                put_two_loads(
-                    out,
-                    at,
-                    t,
-                    Instruction::ComplexBinary {
-                        op: ComplexBinOp::Imul,
-                        dst: Operand::Reg(Register::RAX),
-                        src: Operand::Reg(Register::RCX),
-                        size,
-                    },
-                );
+                put_two_loads(out, at, t, Middle::Multiply);
             }
             CountResult::Records(4)
         }
@@ -382,18 +344,7 @@ pub fn shift(
     match look_loads(tables, offsets, s, k) {
         SidesResult::Are(t) => {
             if write {
-                let size = t.size;
-                put_two_loads(
-                    out,
-                    at,
-                    t,
-                    Instruction::Shift {
-                        op,
-                        dst: Operand::Reg(Register::RAX),
-                        src: Operand::Reg(Register::RCX),
-                        size,
-                    },
-                );
+                put_two_loads(out, at, t, Middle::Shift(op));
             }
             CountResult::Records(4)
         }

@@ -1,48 +1,32 @@
 use Rattle.ir.specs.Function.{binaryOp}
-use Rattle.utils.proofs.Made.{no-list}
+use Rattle.codegen.specs.Arithmetic.{floatOperation}
+use Rattle.operations.specs.Loads.{oneLoad}
 use Rattle.arithmetic.proofs.Numbers.{not-float}
 use borrow.Author.Needs.{needs}
 use Rattle.arithmetic.proofs.float_binary.Statement.{statement}
 use Rattle.arithmetic.proofs.float_binary.Tie as tie
 
-float-operation-requires : tie.Need-float-operation-requires
-unfolding binaryOp
-float-operation-requires c κs = (c .before .before .before .before .before .before .pre .0, rw (c .before .match .keys1) at (c .before .before .before .before .before .before .pre .1))
-
-float-operation-requires-2 : tie.Need-float-operation-requires-2
-unfolding binaryOp
-float-operation-requires-2 c κs = (c .before .before .before .before .before .before .pre .0, rw (c .before .match .keys2) at (c .before .before .before .before .before .before .pre .1))
-
-float-operation-requires-3 : tie.Need-float-operation-requires-3
-unfolding binaryOp
-float-operation-requires-3 c κs = (c .before .before .before .before .before .before .pre .0, rw (c .before .match .keys3) at (c .before .before .before .before .before .before .pre .1))
-
-float-operation-requires-4 : tie.Need-float-operation-requires-4
-unfolding binaryOp
-float-operation-requires-4 c κs = (c .before .before .before .before .before .before .pre .0, rw (c .before .match .keys4) at (c .before .before .before .before .before .before .pre .1))
-
 returns : tie.Need-returns
-unfolding binaryOp
-returns c = rw (c .before .before .before .before .match .keys1) (c .before .before .float-operation .ensures)
+unfolding binaryOp floatOperation oneLoad
+returns c = record { list = λ ctx dest left right. rw (c .match .keys1) }
 
 returns-2 : tie.Need-returns-2
-unfolding binaryOp
-returns-2 c = rw (c .before .before .before .before .match .keys2) (c .before .before .float-operation2 .ensures)
+unfolding binaryOp floatOperation oneLoad
+returns-2 c = record { list = λ ctx dest left right. rw (c .match .keys2) }
 
 returns-3 : tie.Need-returns-3
-unfolding binaryOp
-returns-3 c = rw (c .before .before .before .before .match .keys3) (c .before .before .float-operation3 .ensures)
+unfolding binaryOp floatOperation oneLoad
+returns-3 c = record { list = λ ctx dest left right. rw (c .match .keys3) }
 
 returns-4 : tie.Need-returns-4
-unfolding binaryOp
-returns-4 c = rw (c .before .before .before .before .match .keys4) (c .before .before .float-operation4 .ensures)
+unfolding binaryOp floatOperation oneLoad
+returns-4 c = record { list = λ ctx dest left right. rw (c .match .keys4) }
 
 returns-5 : tie.Need-returns-5
-returns-5 c = no-list (not-float _ _ _ _ _ (c .match .rest .0 .0 .0 .1) (c .match .rest .0 .0 .1) (c .match .rest .0 .1) (c .match .rest .1))
+returns-5 c = record { list = λ ctx dest left right. not-float ctx dest left right _ (c .match .rest .0 .0 .0 .1) (c .match .rest .0 .0 .1) (c .match .rest .0 .1) (c .match .rest .1) }
 
 pub float-binary-spec : {M : Type 1} → statement M
 float-binary-spec =
     tie.close
     (tie.spec
-    float-operation-requires float-operation-requires-2 float-operation-requires-3 float-operation-requires-4 (λ c. search needs) returns
-    (λ c. search needs) returns-2 (λ c. search needs) returns-3 (λ c. search needs) returns-4 returns-5)
+    returns returns-2 returns-3 returns-4 returns-5)

@@ -16,11 +16,11 @@ returns c = makes _ (sign-looked _ _ _ _ (sym (rw (c .before .before .before .be
 returns-2 : tie.Need-returns-2
 returns-2 c = counts _ (sign-looked _ _ _ _ (sym (rw (c .before .before .before .type-at .ensures, dest-type) at (c .before .before .flips-sign .ensures)) ∙ c .before .if1 .taken)) (told changedSays (c .before .before .before .before .before .before .before .look-unary .ensures) (c .before .before .before .before .before .t .given .1)) (c .if2 .left)
 
-put-unary-requires : tie.Need-put-unary-requires
-put-unary-requires c κs = has-room _ (unary-looked _ _ _ _ (sym (rw (c .before .before .before .before .before .type-at .ensures, dest-type) at (c .before .before .before .before .flips-sign .ensures)) ∙ c .before .before .before .if1 .left)) (told changedSays (c .before .before .before .before .before .before .before .before .before .look-unary .ensures) (c .before .before .before .before .before .before .before .t .given .1)) (c .before .before .before .before .before .before .before .before .before .before .before .before .before .before .pre .1) (c .before .before .if3 .taken)
+put-changed-requires : tie.Need-put-changed-requires
+put-changed-requires c κs = has-room _ (unary-looked _ _ _ _ (sym (rw (c .before .before .before .before .type-at .ensures, dest-type) at (c .before .before .before .flips-sign .ensures)) ∙ c .before .before .if1 .left)) (told changedSays (c .before .before .before .before .before .before .before .before .look-unary .ensures) (c .before .before .before .before .before .before .t .given .1)) (c .before .before .before .before .before .before .before .before .before .before .before .before .before .pre .1) (c .before .if3 .taken)
 
 returns-3 : tie.Need-returns-3
-returns-3 c = makes _ (unary-looked _ _ _ _ (sym (rw (c .before .before .before .before .before .before .before .before .type-at .ensures, dest-type) at (c .before .before .before .before .before .before .before .flips-sign .ensures)) ∙ c .before .before .before .before .before .before .if1 .left)) (told changedSays (c .before .before .before .before .before .before .before .before .before .before .before .before .look-unary .ensures) (c .before .before .before .before .before .before .before .before .before .before .t .given .1)) (c .before .before .before .before .before .if3 .taken) (rw (c .before .before .before .unary-record .ensures) at (c .before .before .put-unary .ensures))
+returns-3 c = makes _ (unary-looked _ _ _ _ (sym (rw (c .before .before .before .before .before .before .before .type-at .ensures, dest-type) at (c .before .before .before .before .before .before .flips-sign .ensures)) ∙ c .before .before .before .before .before .if1 .left)) (told changedSays (c .before .before .before .before .before .before .before .before .before .before .before .look-unary .ensures) (c .before .before .before .before .before .before .before .before .before .t .given .1)) (c .before .before .before .before .if3 .taken) (c .before .before .put-changed .ensures)
 
 returns-4 : tie.Need-returns-4
 returns-4 c = counts _ (unary-looked _ _ _ _ (sym (rw (c .before .before .before .type-at .ensures, dest-type) at (c .before .before .flips-sign .ensures)) ∙ c .before .if1 .left)) (told changedSays (c .before .before .before .before .before .before .before .look-unary .ensures) (c .before .before .before .before .before .t .given .1)) (c .if3 .left)
@@ -33,5 +33,5 @@ generate-unary-spec =
     tie.close
     (tie.spec
     (λ c κs. search needs) (λ c. search needs) (λ c. search needs) (λ c κs. search needs) (λ c κs. search needs) put-sign-requires
-    (λ c. search needs) returns returns-2 (λ c κs. search needs) put-unary-requires (λ c. search needs) (λ c. search needs) returns-3 returns-4
+    (λ c. search needs) returns returns-2 put-changed-requires (λ c. search needs) (λ c. search needs) returns-3 returns-4
     returns-5)
