@@ -44,6 +44,11 @@ impl Type {
         self.count != -1
     }
 
+    /// An array of floats is none.
+    pub fn is_float(self) -> bool {
+        matches!(self.code, FLOAT | SHORT_FLOAT) && !self.is_array()
+    }
+
     /// Bytes of the type, or of one element of an array.
     pub fn element_size(self) -> Option<i64> {
         match self.code {

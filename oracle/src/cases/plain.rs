@@ -28,7 +28,7 @@ fn head(rng: &mut Rng) -> Sheet {
     // a fifth has parameters beyond the six registers
     let many = rng.chance(1, 5);
     let count = match (many, rng.chance(1, 40)) {
-        (true, _) if rng.chance(1, 4) => rng.between(20, 48),
+        (true, _) if rng.chance(1, 4) => rng.between(20, 60),
         (true, _) => rng.between(8, 20),
         (_, true) => 0,
         _ => rng.between(1, 14),

@@ -7,7 +7,7 @@ pub mod calls;
 pub mod trial;
 
 use crate::rng::Rng;
-use crate::sheet::{Instr, binary};
+use crate::sheet::{Instr, Sheet, binary};
 use crate::steps::{End, divides_signed, ends_by_the_least};
 use batch::{BuildFolder, Outcome};
 use krc::record::Record;
@@ -129,9 +129,11 @@ fn report(trial: &Trial, entry: &Entry, difference: &str) -> String {
 
 fn compare(trial: &Trial, entry: &Entry, outcome: &Outcome, counting: bool) -> Result<(), String> {
     compare_end(trial, entry, outcome)?;
-    compare_saved(entry, outcome, counting)?;
+    compare_saved(&entry.registers, outcome, counting)?;
     compare_addresses(trial, entry, outcome)?;
-    compare_region(trial, entry, outcome)?;
+    let (sheet, variables) = (&trial.sheet, &entry.run.variables);
+    let memory = Memory { sheet, below: entry.below, region: &entry.region, variables };
+    memory.compare(entry.registers[RBP], outcome, 0)?;
     if counting {
         compare_count(trial, entry, outcome.registers[COUNTER])?;
         compare_position(trial, entry, outcome.registers[POSITION] as usize)?;
@@ -166,11 +168,11 @@ fn compare_end(trial: &Trial, entry: &Entry, outcome: &Outcome) -> Result<(), St
 }
 
 /// The callee-saved registers; the counting build uses two of them.
-fn compare_saved(entry: &Entry, outcome: &Outcome, counting: bool) -> Result<(), String> {
+fn compare_saved(at_entry: &[u64; 17], outcome: &Outcome, counting: bool) -> Result<(), String> {
     for register in SAVED {
         if !(counting && [COUNTER, POSITION].contains(&register)) {
             let name = format!("saved register {register}");
-            same(&name, entry.registers[register], outcome.registers[register])?;
+            same(&name, at_entry[register], outcome.registers[register])?;
         }
     }
     Ok(())
@@ -188,19 +190,30 @@ fn compare_addresses(trial: &Trial, entry: &Entry, outcome: &Outcome) -> Result<
     Ok(())
 }
 
-/// Every byte of the frame and around it.
-fn compare_region(trial: &Trial, entry: &Entry, outcome: &Outcome) -> Result<(), String> {
-    let mut wanted = entry.region.clone();
-    let link = [entry.registers[RBP], outcome.back].map(u64::to_le_bytes).concat();
-    wanted[entry.below..entry.below + link.len()].copy_from_slice(&link);
-    for (slot, bytes) in slots(&trial.sheet, entry.below).into_iter().zip(&entry.run.variables) {
-        wanted[slot].copy_from_slice(bytes);
-    }
-    match (0..wanted.len()).find(|at| wanted[*at] != outcome.region[*at]) {
-        None => Ok(()),
-        Some(at) => {
-            let name = format!("byte at B {:+}", at as i64 - entry.below as i64);
-            same(&name, wanted[at], outcome.region[at])
+/// The region at entry, with `below` bytes under B, and the variables' bytes at the end.
+struct Memory<'a> {
+    sheet: &'a Sheet,
+    below: usize,
+    region: &'a [u8],
+    variables: &'a [Vec<u8>],
+}
+
+impl Memory<'_> {
+    /// Every byte from a place of the region on: slots, saved RBP, return address, all others as at entry.
+    fn compare(&self, rbp: u64, outcome: &Outcome, from: usize) -> Result<(), String> {
+        let Self { sheet, below, region, variables } = *self;
+        let mut wanted = region.to_vec();
+        let link = [rbp, outcome.back].map(u64::to_le_bytes).concat();
+        wanted[below..below + link.len()].copy_from_slice(&link);
+        for (slot, bytes) in slots(sheet, below).into_iter().zip(variables) {
+            wanted[slot].copy_from_slice(bytes);
+        }
+        match (from..wanted.len()).find(|at| wanted[*at] != outcome.region[*at]) {
+            None => Ok(()),
+            Some(at) => {
+                let name = format!("byte at B {:+}", at as i64 - below as i64);
+                same(&name, wanted[at], outcome.region[at])
+            }
         }
     }
 }

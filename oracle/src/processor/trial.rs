@@ -14,7 +14,7 @@ const MAX_STEPS: u64 = 2_000;
 /// Bytes watched below the frame and above the return address.
 pub const MARGIN: usize = 4_096;
 /// The return address and the saved RBP.
-const LINK: usize = 16;
+pub const LINK: usize = 16;
 
 pub const RSP: usize = 4;
 pub const RBP: usize = 5;
@@ -22,9 +22,9 @@ pub const RBP: usize = 5;
 pub const SAVED: [usize; 5] = [3, 12, 13, 14, 15];
 pub const COUNTER: usize = 15;
 pub const POSITION: usize = 14;
-const FLAGS: usize = 16;
+pub const FLAGS: usize = 16;
 /// RDI, RSI, RDX, RCX, R8, R9.
-const PARAMETERS: [usize; 6] = [7, 6, 2, 1, 8, 9];
+pub const PARAMETERS: [usize; 6] = [7, 6, 2, 1, 8, 9];
 
 pub struct Trial {
     pub sheet: Sheet,
@@ -86,7 +86,7 @@ fn entry(rng: &mut Rng, sheet: &Sheet) -> Entry {
     let mut region = vec![0; below + LINK + MARGIN];
     rng.fill(&mut region);
     let mut registers = [0; 17].map(|_: u64| rng.next());
-    registers[FLAGS] = flags(rng);
+    registers[FLAGS] = flags(rng) | AC;
     let slots = slots(sheet, below);
     for slot in &slots {
         mix_in_edge_value(rng, &mut region[slot.clone()]);
@@ -115,11 +115,12 @@ fn mix_in_edge_value(rng: &mut Rng, bytes: &mut [u8]) {
     }
 }
 
-/// The direction flag clear, the arithmetic flags at random. With AC set the processor itself raises SIGBUS where a
-/// record touches memory that does not lie on its own width.
-fn flags(rng: &mut Rng) -> u64 {
+/// With AC set the processor itself raises SIGBUS where a record touches memory that does not lie on its own width.
+const AC: u64 = 1 << 18;
+
+/// The direction flag clear, the arithmetic flags at random.
+pub fn flags(rng: &mut Rng) -> u64 {
     const ALWAYS: u64 = 0x202;
-    const AC: u64 = 1 << 18;
     const ARITHMETIC: u64 = 0x8d5;
-    ALWAYS | AC | rng.next() & ARITHMETIC
+    ALWAYS | rng.next() & ARITHMETIC
 }

@@ -13,7 +13,7 @@
 
 use crate::panics::{NO_ENTRY, NO_WIDTH, ODD_WIDTH};
 use crate::read::Refusal;
-use crate::sheet::{FLOAT, Instr, Operand, SHORT_FLOAT, Sheet, Tables, Type, Variable};
+use crate::sheet::{Instr, Operand, Sheet, Tables, Variable};
 use krc::record::Record;
 
 /// What lowers a function without excess.
@@ -66,15 +66,11 @@ pub fn without(sheet: &Sheet) -> Option<Sheet> {
     split.has_excess().then_some(split.kept)
 }
 
-/// The class by the own type; an array of floats is no float.
-fn is_float(ty: Type) -> bool {
-    ty == Type::scalar(FLOAT) || ty == Type::scalar(SHORT_FLOAT)
-}
-
+/// The class of a variable is by its own type.
 fn is_float_operand(operand: &Operand) -> bool {
     match operand {
         Operand::Float(_) => true,
-        Operand::Var(var) => is_float(var.ty),
+        Operand::Var(var) => var.ty.is_float(),
         _ => false,
     }
 }
@@ -107,7 +103,7 @@ struct Split {
 impl Split {
     fn of(sheet: &Sheet) -> Self {
         let mut kept = sheet.clone();
-        let (registers, parameters) = divide(&sheet.parameters, |param| is_float(param.ty));
+        let (registers, parameters) = divide(&sheet.parameters, |param| param.ty.is_float());
         kept.parameters = registers;
         let mut calls = Vec::new();
         for (number, instr) in (1..).zip(&mut kept.body) {

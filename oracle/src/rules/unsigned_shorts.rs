@@ -35,14 +35,10 @@ pub fn apply(_: &Tables, sheet: &Sheet, list: &mut Vec<Record>) {
 fn sign_extended(instr: &Instr) -> Option<Operand> {
     let Instr::Cast { dest, src } = instr else { return None };
     let from = match src {
-        Operand::Var(var) if !is_float(var.ty) => var.ty.size()?,
+        Operand::Var(var) if !var.ty.is_float() => var.ty.size()?,
         Operand::Int { short: true, .. } => 4,
         _ => return None,
     };
-    let widens = !is_float(dest.ty) && from < dest.ty.size()?;
+    let widens = !dest.ty.is_float() && from < dest.ty.size()?;
     (widens && ![1, 8].contains(&from)).then_some(*src)
-}
-
-fn is_float(ty: Type) -> bool {
-    !ty.is_array() && matches!(ty.code, FLOAT | SHORT_FLOAT)
 }

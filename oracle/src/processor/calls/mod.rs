@@ -11,8 +11,8 @@ use std::process::{Command, Stdio};
 
 use super::asm;
 use super::batch::{BuildFolder, Outcome, Request};
-use super::same;
-use super::trial::{Lowering, RBP, RSP, SAVED, frame, slots};
+use super::trial::{Lowering, RBP, RSP, frame};
+use super::{Memory, compare_saved, same};
 use crate::rng::Rng;
 use crate::sheet::Instr;
 use krc::record::Record;
@@ -172,30 +172,12 @@ fn compare(trial: &Trial, outcome: &Outcome) -> Result<(), String> {
     same("calls", symbols(trial).count() as u64, outcome.calls)?;
     same("RSP", outcome.base + 16, outcome.registers[RSP])?;
     same("RBP", trial.registers[RBP], outcome.registers[RBP])?;
-    for register in SAVED {
-        let name = format!("saved register {register}");
-        same(&name, trial.registers[register], outcome.registers[register])?;
-    }
+    compare_saved(&trial.registers, outcome, false)?;
     if let Some((value, width)) = trial.value {
         same("value", value, outcome.registers[0] & (u64::MAX >> (64 - 8 * width)))?;
     }
-    compare_region(trial, outcome)
-}
-
-/// Every byte from the frame's end up; below it the callees have their own.
-fn compare_region(trial: &Trial, outcome: &Outcome) -> Result<(), String> {
-    let mut wanted = trial.region.clone();
-    let link = [trial.registers[RBP], outcome.back].map(u64::to_le_bytes).concat();
-    wanted[trial.below..trial.below + link.len()].copy_from_slice(&link);
-    for (slot, bytes) in slots(&trial.sheet, trial.below).into_iter().zip(&trial.variables) {
-        wanted[slot].copy_from_slice(bytes);
-    }
-    let end = trial.below - frame(&trial.sheet);
-    match (end..wanted.len()).find(|at| wanted[*at] != outcome.region[*at]) {
-        None => Ok(()),
-        Some(at) => {
-            let name = format!("byte at B {:+}", at as i64 - trial.below as i64);
-            same(&name, wanted[at], outcome.region[at])
-        }
-    }
+    // below the frame's end the callees have their own
+    let Trial { sheet, below, region, variables, .. } = trial;
+    let memory = Memory { sheet, below: *below, region, variables };
+    memory.compare(trial.registers[RBP], outcome, below - frame(sheet))
 }

@@ -4,18 +4,16 @@ use std::fmt::Write;
 
 use super::signature::{Given, Kind, Signature};
 use crate::cases::any;
-use crate::processor::trial::{Lowering, MARGIN, frame, slots, stacked};
+use crate::processor::trial::{
+    FLAGS, LINK, Lowering, MARGIN, PARAMETERS, flags, frame, slots, stacked,
+};
 use crate::rng::Rng;
 use crate::sheet::*;
 use krc::record::Record;
 
-/// RDI, RSI, RDX, RCX, R8, R9.
-const GENERAL: [usize; 6] = [7, 6, 2, 1, 8, 9];
+/// XMM0 to XMM7.
 const FLOATS: usize = 8;
-const FLAGS: usize = 16;
 const STRINGS: i64 = 3;
-/// The return address and the saved RBP.
-const LINK: usize = 16;
 
 /// The callees of a batch: each signature has a symbol for each compiler.
 pub struct Callees {
@@ -57,7 +55,7 @@ fn string_bytes(function: usize, index: i64) -> [u8; 8] {
 pub fn draw(rng: &mut Rng, function: usize, callees: &Callees, lowering: Lowering) -> Trial {
     let constants: Vec<Float> = (0..rng.between(2, 5)).map(|at| float(rng, at)).collect();
     let mut builder = Builder { sheet: head(rng), function, constants, rng };
-    let (below, mut trial) = builder.entry();
+    let mut trial = builder.entry();
     for _ in 0..builder.rng.between(1, 6) {
         let symbol = builder.rng.below(callees.signatures.len() * callees.compilers);
         let signature = &callees.signatures[symbol % callees.signatures.len()];
@@ -70,7 +68,6 @@ pub fn draw(rng: &mut Rng, function: usize, callees: &Callees, lowering: Lowerin
     let floats = constants.iter().map(|float| float.short).collect();
     trial.list = lowering(&Tables { strings: STRINGS, floats }, &sheet);
     trial.data = data(function, &constants);
-    trial.below = below;
     trial.sheet = sheet;
     trial
 }
@@ -97,7 +94,7 @@ fn data(function: usize, floats: &[Float]) -> String {
     text
 }
 
-/// Two or more variables of each kind, in any order, and up to 40 parameters.
+/// One or more variables of each type, some arrays, in any order; up to 40 parameters.
 fn head(rng: &mut Rng) -> Sheet {
     let mut variables: Vec<Type> = (LONG..=ADDRESS).map(Type::scalar).collect();
     variables.extend([(BYTE, 2), (LONG, 2), (CHAR, 9), (FLOAT, 1)].map(|(c, n)| Type::array(c, n)));
@@ -106,16 +103,11 @@ fn head(rng: &mut Rng) -> Sheet {
     rng.shuffle(&mut variables);
     let mut sheet = Sheet { variables, ..Sheet::default() };
     let mut ids: Vec<usize> = (0..sheet.variables.len()).collect();
-    ids.retain(|id| !sheet.variables[*id].is_array() || sheet.variables[*id].count == 2);
-    ids.retain(|id| sheet.variables[*id] != Type::array(LONG, 2));
+    ids.retain(|id| sheet.variables[*id].size().is_some_and(|size| [1, 2, 4, 8].contains(&size)));
     rng.shuffle(&mut ids);
     ids.truncate(rng.pick(&[0, 4, 9, 20, 40]));
     sheet.parameters = ids.into_iter().map(|id| sheet.variable(id)).collect();
     sheet
-}
-
-fn is_float(ty: Type) -> bool {
-    ty == Type::scalar(FLOAT) || ty == Type::scalar(SHORT_FLOAT)
 }
 
 fn number(bytes: &[u8]) -> u64 {
@@ -133,15 +125,15 @@ struct Builder<'a> {
 }
 
 impl Builder<'_> {
-    /// Random registers and bytes; each parameter where the ABI has it.
-    fn entry(&mut self) -> (usize, Trial) {
+    /// Random registers and bytes, each parameter where the ABI has it; without a list yet.
+    fn entry(&mut self) -> Trial {
         let Self { rng, sheet, .. } = self;
         let below = frame(sheet) + MARGIN;
         let mut region = vec![0; below + LINK + MARGIN];
         rng.fill(&mut region);
         let mut registers = [0; 17].map(|_: u64| rng.next());
         let mut floats = [0; 8].map(|_: u64| rng.next());
-        registers[FLAGS] = 0x202;
+        registers[FLAGS] = flags(rng);
         let mut variables: Vec<Vec<u8>> =
             slots(sheet, below).into_iter().map(|slot| region[slot].to_vec()).collect();
         let (mut general, mut float, mut excess) = (0, 0, 0);
@@ -150,34 +142,30 @@ impl Builder<'_> {
             let bytes = &mut variables[parameter.id as usize];
             let width = bytes.len();
             bytes.copy_from_slice(&cell.to_le_bytes()[..width]);
-            if is_float(parameter.ty) && float < FLOATS {
+            if parameter.ty.is_float() && float < FLOATS {
                 floats[float] = cell;
                 float += 1;
-            } else if !is_float(parameter.ty) && general < GENERAL.len() {
-                registers[GENERAL[general]] = cell;
+            } else if !parameter.ty.is_float() && general < PARAMETERS.len() {
+                registers[PARAMETERS[general]] = cell;
                 general += 1;
             } else {
                 region[stacked(below, excess)].copy_from_slice(&cell.to_le_bytes());
                 excess += 1;
             }
         }
-        let shift = 16 * rng.below(256) as u64;
-        let (sheet, list, data, script) = (Sheet::default(), vec![], String::new(), vec![]);
-        let value = None;
-        let trial = Trial {
-            sheet,
-            list,
-            data,
+        Trial {
+            sheet: Sheet::default(),
+            list: Vec::new(),
+            data: String::new(),
             registers,
             floats,
-            shift,
+            shift: 16 * rng.below(256) as u64,
             below,
             region,
-            script,
+            script: Vec::new(),
             variables,
-            value,
-        };
-        (below, trial)
+            value: None,
+        }
     }
 
     /// A variable whose type is one of these.
@@ -291,7 +279,7 @@ pub fn beyond_registers(kinds: &[Kind]) -> Vec<usize> {
     let (mut general, mut floats) = (0, 0);
     let beyond = |kind: &Kind| {
         let (taken, most) =
-            if kind.is_float() { (&mut floats, FLOATS) } else { (&mut general, GENERAL.len()) };
+            if kind.is_float() { (&mut floats, FLOATS) } else { (&mut general, PARAMETERS.len()) };
         *taken += 1;
         *taken > most
     };
