@@ -18,7 +18,7 @@ use Rattle.ir.specs.Function.{Function, Line, tablesOf, functionOf, bodyFrom}
 use Rattle.ir.proofs.Sheet.{lines-length}
 use Rattle.x86.specs.declared.enums.Instruction.{Instruction}
 use Rattle.codegen.specs.Generation.{Outcome, accepted, refused, generate, checked, compiled}
-use Rattle.codegen.proofs.Refusals.{tables-off, sheet-off, four-to-eight}
+use Rattle.codegen.proofs.Refusals.{tables-off, sheet-off, four-to-seven}
 use Rattle.machine.specs.Plain.{isPlainHead, isPlainInstr, isPlainLine, isPlainAt, isRefusedAt, isFault, firstFault}
 use Rattle.machine.proofs.Accepted.{never}
 use Rattle.machine.proofs.Run.{le-or-lt}
@@ -180,7 +180,7 @@ module _ (t s : List ℕ) where
             → checked a (λ u. checked b (λ v. generate (tablesOf t) (functionOf s))) ≡ refused n place → isFault t s 0 ≡ true
         go (Checked.Refused m k) p b q e = rw p
         go (Checked.Behind c) p (Checked.Refused m k) q e = rw (p, q)
-        go (Checked.Behind c) p (Checked.Behind d) q e = let (x, y) = four-to-eight (tablesOf t) (functionOf s) .of n place e in absurd (omega arith)
+        go (Checked.Behind c) p (Checked.Behind d) q e = let (x, y) = four-to-seven (tablesOf t) (functionOf s) .of n place e in absurd (omega arith)
 
     module _ (h : 4 ≤ n) where
       -- before the body

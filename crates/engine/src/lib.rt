@@ -22,7 +22,7 @@ pub extern "C" fn gilthoren_lower(
     place: &mut u64,
 ) -> u64
     ensures number { λ r. ⌜ r ≡ numberOf (lowered (now (tables .entry)) (now (sheet .entry)) (length (now (records .entry)))) ⌝ }
-    ensures known { λ r. ⌜ r ≤ 9 ⌝ }
+    ensures known { λ r. ⌜ (r ≤ 9) × (r ≡ 8 → ⊥) ⌝ }
     ensures place { λ r. ⌜ now (place .exit) ≡ valueOf (lowered (now (tables .entry)) (now (sheet .entry)) (length (now (records .entry)))) ⌝ }
     ensures bytes { λ r. ⌜ now (records .exit) ≡ recordsAfter (lowered (now (tables .entry)) (now (sheet .entry)) (length (now (records .entry)))) (now (records .entry)) ⌝ }
     ensures lent { λ r. ⌜ (now (tables .exit) ≡ now (tables .entry)) × (now (sheet .exit) ≡ now (sheet .entry)) ⌝ }

@@ -17,7 +17,7 @@ returns c =
     let g = c .before .count .given .1 in
     let e = sym (ap answerSays g) ∙ r .0 in
     let v = accepted-numbers o e in
-    (v .0, (omega arith, (v .1, (r .1 .0, ((refl, refl), (λ z. r .1 .1 .0 _ g, λ z p. r .1 .1 .1 _ g p))))))
+    (v .0, ((omega arith, λ z. omega arith), (v .1, (r .1 .0, ((refl, refl), (λ z. r .1 .1 .0 _ g, λ z p. r .1 .1 .1 _ g p))))))
 
 returns-2 : tie.Need-returns-2
 returns-2 c =
@@ -28,7 +28,7 @@ returns-2 c =
     let e = sym (ap answerSays g) ∙ r .0 in
     let v = refused-numbers o e in
     let k = lowered-answers (a .tables .now) (a .sheet .now) (length (a .records .now)) .of _ _ (refused-is o e) in
-    (v .0, (k .1, (v .1, (r .1 .0, ((refl, refl), (λ z. absurd (omega (arith, k .0)), λ z p. absurd (omega (arith, k .0))))))))
+    (v .0, ((k .1, k .2), (v .1, (r .1 .0, ((refl, refl), (λ z. absurd (omega (arith, k .0)), λ z p. absurd (omega (arith, k .0))))))))
 
 pub gilthoren-lower-spec : {M : Type 1} → statement M
 gilthoren-lower-spec =
