@@ -82,6 +82,7 @@ base-lt : (o : Base) → baseTag o < 100
 base-lt Base.Rbp = lit< tt
 base-lt Base.String = lit< tt
 base-lt Base.Float = lit< tt
+base-lt Base.Rsp = lit< tt
 
 tag-lt : (o : Operand) → tagOf o < 100
 tag-lt Operand.NoOperand = lit< tt
