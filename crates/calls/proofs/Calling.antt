@@ -1,7 +1,7 @@
 -- The parts of a call, one behind the other, and how many records each of them has.
-use Prim.Native.Nat.{ℕ, zero, _+_, _*_, _≤_}
+use Prim.Native.Nat.{ℕ, _+_, _*_, _≤_}
 use mathlib.Core.Path.{_≡_, refl, sym, ap, _∙_}
-use mathlib.Core.Bool.{Bool, true, false, cond}
+use mathlib.Core.Bool.{Bool}
 use mathlib.Core.List.{List, [], _∷_, _++_, append-assoc}
 use native.Mathlib.Omega.{arith}
 use borrow.Author.Tests.{ne-eqb}
@@ -20,16 +20,16 @@ use Rattle.codegen.specs.Instructions.{floating, excess, loadArguments, pushArg
 use Rattle.codegen.proofs.Results.{Yields, yields, refuses, weaken}
 use Rattle.codegen.proofs.Shapes.{loads-few, pushes-few, stack-few, result-part, excess-few}
 use Rattle.utils.specs.declared.CountResult.{CountResult}
-use Rattle.utils.specs.Makes.{Makes, then}
-use Rattle.utils.proofs.Rows.{InRow}
-use Rattle.calls.specs.Calls.{stackArguments, callOf, callRaised, callSymbol, callArguments}
+use Rattle.utils.specs.Makes.{Makes, Ready, then}
+use Rattle.utils.proofs.Rows.{InRow, first-ready, first-stops, second-ready, second-stops, both-made}
+use Rattle.calls.specs.Calls.{stackArguments, callOf, callRaised, callSymbol}
 use Rattle.calls.proofs.Pushes.{operands-count}
 
 -- ---- the parts
 
-pub in-parts : (ctx : Context) (dest : Dest) (symbol : ℕ) (args : List IrOp) {k : ℕ} → k ≡ length (excess floating 0 0 args)
-    → InRow (generateCall ctx dest symbol args) (stackArguments ctx args) (callArguments ctx dest symbol k args)
-unfolding generateCall stackArguments callArguments callSymbol
+in-parts : (ctx : Context) (dest : Dest) (symbol : ℕ) (args : List IrOp) {k : ℕ} → k ≡ length (excess floating 0 0 args)
+    → InRow (generateCall ctx dest symbol args) (stackArguments ctx args) (then (loadArguments ctx 0 0 args) (callSymbol ctx dest symbol k))
+unfolding generateCall stackArguments callSymbol
 in-parts ctx dest symbol args {k} e = rw e (record { is = go (pushArguments ctx 0 (excess floating 0 0 args)) (loadArguments ctx 0 0 args) (storeResult ctx dest) })
   where
     down : List Instruction
@@ -49,10 +49,6 @@ pub stack-parts : (ctx : Context) (args : List IrOp) {k : ℕ} → k ≡ length 
     → InRow (stackArguments ctx args) (ok (moveStack BinOp.Sub k)) (pushArguments ctx 0 (excess floating 0 0 args))
 unfolding stackArguments
 stack-parts ctx args e = rw e (record { is = refl })
-
-pub argument-parts : (ctx : Context) (dest : Dest) (symbol k : ℕ) (args : List IrOp) → InRow (callArguments ctx dest symbol k args) (loadArguments ctx 0 0 args) (callSymbol ctx dest symbol k)
-unfolding callArguments
-argument-parts ctx dest symbol k args = record { is = refl }
 
 pub symbol-parts : (ctx : Context) (dest : Dest) (symbol k : ℕ) → InRow (callSymbol ctx dest symbol k) (ok (callRaised symbol k)) (storeResult ctx dest)
 unfolding callSymbol
@@ -118,6 +114,42 @@ pub few-called : (ctx : Context) (dest : Dest) (symbol k : ℕ) → Yields (call
 unfolding callSymbol
 few-called ctx dest symbol k = then-few (few-raised symbol k) (few-stored ctx dest)
 
-pub few-behind : (ctx : Context) (dest : Dest) (symbol k : ℕ) (s : List ℕ) (n from : ℕ) → Yields (callArguments ctx dest symbol k (operandsAt s n from)) (λ is. length is ≤ n + 1 + 3)
-unfolding callArguments
-few-behind ctx dest symbol k s n from = then-few (few-loads s n from ctx) (few-called ctx dest symbol k)
+-- ---- the three parts, made in turn
+
+module _ (ctx : Context) (dest : Dest) (symbol : ℕ) (args : List IrOp) (old : List ℕ) {k : ℕ} (e : k ≡ length (excess floating 0 0 args)) {writes : Bool} {at : ℕ}
+    (room : Ready writes (generateCall ctx dest symbol args) at (length old)) where
+  parts : InRow (generateCall ctx dest symbol args) (stackArguments ctx args) (then (loadArguments ctx 0 0 args) (callSymbol ctx dest symbol k))
+  parts = in-parts ctx dest symbol args e
+
+  last-parts : InRow (then (loadArguments ctx 0 0 args) (callSymbol ctx dest symbol k)) (loadArguments ctx 0 0 args) (callSymbol ctx dest symbol k)
+  last-parts = record { is = refl }
+
+  pub stack-ready : Ready writes (stackArguments ctx args) at (length old)
+  stack-ready = first-ready old parts room
+
+  pub stack-stops : {m : ℕ} {new : List ℕ} → Makes writes (stackArguments ctx args) at old new (CountResult.Refused m)
+      → Makes writes (generateCall ctx dest symbol args) at old new (CountResult.Refused m)
+  stack-stops made = first-stops parts room made
+
+  module _ {x : ℕ} {mid : List ℕ} (p : Makes writes (stackArguments ctx args) at old mid (CountResult.Records x)) where
+    rest-ready : Ready writes (then (loadArguments ctx 0 0 args) (callSymbol ctx dest symbol k)) (at + 64 * x) (length mid)
+    rest-ready = second-ready parts room p refl
+
+    pub loads-ready : Ready writes (loadArguments ctx 0 0 args) (at + 64 * x) (length mid)
+    loads-ready = first-ready mid last-parts rest-ready
+
+    pub loads-stop : {m : ℕ} {new : List ℕ} → Makes writes (loadArguments ctx 0 0 args) (at + 64 * x) mid new (CountResult.Refused m)
+        → Makes writes (generateCall ctx dest symbol args) at old new (CountResult.Refused m)
+    loads-stop made = second-stops parts room p (first-stops last-parts rest-ready made)
+
+    module _ {y : ℕ} {late : List ℕ} (l : Makes writes (loadArguments ctx 0 0 args) (at + 64 * x) mid late (CountResult.Records y)) where
+      pub call-ready : Ready writes (callSymbol ctx dest symbol k) (at + 64 * x + 64 * y) (length late)
+      call-ready = second-ready last-parts rest-ready l refl
+
+      pub call-stops : {m : ℕ} {new : List ℕ} → Makes writes (callSymbol ctx dest symbol k) (at + 64 * x + 64 * y) late new (CountResult.Refused m)
+          → Makes writes (generateCall ctx dest symbol args) at old new (CountResult.Refused m)
+      call-stops made = second-stops parts room p (second-stops last-parts rest-ready l made)
+
+      pub all-made : {m : ℕ} {new : List ℕ} → Makes writes (callSymbol ctx dest symbol k) (at + 64 * x + 64 * y) late new (CountResult.Records m)
+          → Makes writes (generateCall ctx dest symbol args) at old new (CountResult.Records (x + (y + m)))
+      all-made made = both-made parts room p refl (both-made last-parts rest-ready l refl made)

@@ -12,7 +12,7 @@ use Rattle.x86.specs.declared.enums.Size.{Size}
 use Rattle.x86.specs.declared.enums.Instruction.{Instruction}
 use Rattle.codegen.specs.Context.{Context}
 use Rattle.codegen.specs.Utils.{loadOperand}
-use Rattle.codegen.specs.Instructions.{floating, isSpent, wordsTaken, floatsTaken, registerOf, loadArguments}
+use Rattle.codegen.specs.Instructions.{floating, wordsTaken, floatsTaken, registerOf, loadArguments}
 use Rattle.codegen.proofs.Results.{never}
 use Rattle.utils.specs.declared.CountResult.{CountResult}
 use Rattle.utils.specs.declared.registers.Taken.{Taken}

@@ -1,6 +1,6 @@
 -- What the code's tests and patterns say: an argument's kind, whether it is in excess, and whether a result is kept.
 use mathlib.Core.Path.{_≡_, refl}
-use mathlib.Core.Bool.{true, false}
+use mathlib.Core.Bool.{false}
 use mathlib.Core.List.{[], _∷_}
 use denote.Enum.Declared.{tagOf}
 use types.Run.{OneOf, miss}

@@ -1,4 +1,4 @@
--- Auxiliary: the parts of a call, one behind the other. `generateCall` is `stackArguments` and `callArguments`, by `in-parts` (proofs/Calling);
+-- Auxiliary: the parts of a call, one behind the other. `generateCall` is `stackArguments`, `loadArguments` and `callSymbol`, by `in-parts` (proofs/Calling);
 -- `pushArguments` is `pushOne` of each argument in excess, by `pushing` (proofs/Pushes), and `loadArguments` is `loadArgument` of each, by `turn` (proofs/Loads).
 use Prim.Native.Nat.{ℕ, _*_}
 use mathlib.Core.Bool.{Bool, true, false, cond}
@@ -15,7 +15,7 @@ use Rattle.x86.specs.declared.enums.Instruction.{Instruction}
 use Rattle.x86.specs.Registers.{xmm, RAX, rspPlus}
 use Rattle.codegen.specs.Context.{Context}
 use Rattle.codegen.specs.Utils.{loadOperand}
-use Rattle.codegen.specs.Instructions.{move, floating, excess, registerOf, loadArguments, pushArguments, moveStack, storeResult}
+use Rattle.codegen.specs.Instructions.{move, floating, excess, registerOf, pushArguments, moveStack, storeResult}
 use Rattle.utils.specs.declared.registers.Taken.{Taken}
 use Rattle.utils.specs.declared.slots.Slot.{Slot}
 use Rattle.utils.specs.Makes.{alone, then}
@@ -70,7 +70,3 @@ resultOf float t = cond float (Instruction.Binary BinOp.StoreF (t .var) (Operand
 -- the call, and the store of its result
 unfoldable pub callSymbol : Context → Dest → ℕ → ℕ → Result (List Instruction)
 callSymbol ctx dest symbol k = then (ok (callRaised symbol k)) (storeResult ctx dest)
-
--- the arguments in registers before these
-unfoldable pub callArguments : Context → Dest → ℕ → ℕ → List IrOp → Result (List Instruction)
-callArguments ctx dest symbol k args = then (loadArguments ctx 0 0 args) (callSymbol ctx dest symbol k)

@@ -21,7 +21,6 @@ use x86::mem_address::MemAddress;
 use x86::record::put_instruction;
 use x86::register::Register;
 ghost use mathlib.Core.Path.{_≡_};
-ghost use mathlib.Core.List.{[], _∷_};
 ghost use Prim.Native.Nat.{_+_, _*_, _≤_};
 ghost use lib.ListN.{length};
 ghost use Rattle.cells.specs.Cells.{cells, write};
@@ -33,7 +32,7 @@ ghost use Rattle.codegen.specs.Instructions.{floating, excess, loadArguments, p
 ghost use Rattle.utils.specs.Answers.{lent};
 ghost use Rattle.utils.specs.Makes.{Makes, Ready};
 ghost use Rattle.utils.specs.Excess.{ifBeyond};
-ghost use Rattle.calls.specs.Calls.{isFloatConstant, pushOne, loadArgument, stackArguments, callOf, callRaised, resultOf, callSymbol, callArguments};
+ghost use Rattle.calls.specs.Calls.{isFloatConstant, pushOne, loadArgument, stackArguments, callRaised, resultOf, callSymbol};
 
 fn is_float_constant(op: IrOp) -> bool
     ensures { λ r. ⌜ r ≡ isFloatConstant op ⌝ }
@@ -382,38 +381,6 @@ fn call_symbol(
     }
 }
 
-// The arguments that find registers, and the call.
-fn call_arguments(
-    tables: &[u8],
-    offsets: &[u64],
-    sheet: &[u8],
-    count: u64,
-    from: usize,
-    dest: Dest,
-    symbol: u64,
-    k: u64,
-    out: &mut [u8],
-    at: usize,
-    write: bool,
-) -> CountResult
-    requires { ⌜ from + 4 * count ≤ cells (now sheet) ⌝ }
-    requires { ⌜ count ≤ 64 ⌝ }
-    requires { ⌜ k ≤ 64 ⌝ }
-    requires { ⌜ at ≤ 4295032832 ⌝ }
-    requires { ⌜ Ready write (callArguments (lent (now tables) (now offsets)) dest symbol k (operandsAt (now sheet) count from)) at (length (now out)) ⌝ }
-    ensures { λ r. ⌜ Makes write (callArguments (lent (now (tables .entry)) (now (offsets .entry))) dest symbol k (operandsAt (now (sheet .entry)) count from)) at (now (out .entry)) (now (out .exit)) r ⌝ }
-{
-    let loads = match load_arguments(tables, offsets, sheet, count, from, out, at, write) {
-        CountResult::Records(loads) => loads,
-        CountResult::Refused(number) => return CountResult::Refused(number),
-    };
-    let place = at + 64 * loads as usize;
-    match call_symbol(tables, offsets, dest, symbol, k, out, place, write) {
-        CountResult::Records(rest) => CountResult::Records(loads + rest),
-        CountResult::Refused(number) => CountResult::Refused(number),
-    }
-}
-
 // `call symbol` with the `count` arguments from cell `from` on: the floats in XMM0 to XMM7, the others in RDI, RSI, RDX, RCX, R8 and R9, and those in
 // excess of them on the stack.
 pub fn generate_call(
@@ -440,20 +407,13 @@ pub fn generate_call(
         CountResult::Refused(number) => return CountResult::Refused(number),
     };
     let place = at + 64 * pushes as usize;
-    match call_arguments(
-        tables,
-        offsets,
-        sheet,
-        count,
-        from,
-        dest,
-        symbol,
-        k,
-        out,
-        place,
-        write,
-    ) {
-        CountResult::Records(rest) => CountResult::Records(pushes + rest),
+    let loads = match load_arguments(tables, offsets, sheet, count, from, out, place, write) {
+        CountResult::Records(loads) => loads,
+        CountResult::Refused(number) => return CountResult::Refused(number),
+    };
+    let end = place + 64 * loads as usize;
+    match call_symbol(tables, offsets, dest, symbol, k, out, end, write) {
+        CountResult::Records(rest) => CountResult::Records(pushes + (loads + rest)),
         CountResult::Refused(number) => CountResult::Refused(number),
     }
 }

@@ -152,7 +152,7 @@ module _ (t s : List ℕ) where
       go (Checked.Behind c) p (Checked.Refused n k) q e = absurd (never e)
       go (Checked.Refused n k) p b q e = absurd (never e)
 
-  -- .. or refused by 4 to 8
+  -- .. or refused by 4 to 7
   refused-right : (n place : ℕ) → 4 ≤ n → compiled t s ≡ refused n place → Right × (generate (tablesOf t) (functionOf s) ≡ refused n place)
   unfolding compiled
   refused-right n place h e = go (tablesCheck t) refl (sheetCheck s) refl e

@@ -1,6 +1,7 @@
 -- Believed: the numbers that the C engine gets (01, "The turned-away slip": a refusal returns number and place, an accepted call the record count;
 -- "Also added: the plain test").
-use Prim.Native.Nat.{ℕ}
+use Prim.Native.Nat.{ℕ, _≤_}
+use mathlib.Core.Path.{_≡_}
 use mathlib.Core.List.{List}
 use mathlib.Core.Option.{Option, none, some}
 use lib.ListN.{length}
@@ -11,6 +12,10 @@ use Rattle.codegen.specs.Generation.{Outcome, accepted, refused}
 abbrev pub numberOf : Outcome (List Instruction) → ℕ
 numberOf (accepted is) = 0
 numberOf (refused n place) = n
+
+-- what it can be: 0 to 9, but for 8, which no refusal has any more (02, M-112)
+abbrev pub IsNumber : ℕ → Type 0
+IsNumber n = (n ≤ 9) × (n ≡ 8 → ⊥)
 
 -- the number of records, or the refusal's place
 abbrev pub valueOf : Outcome (List Instruction) → ℕ

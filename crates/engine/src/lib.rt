@@ -5,13 +5,12 @@ use generation::generate;
 use plain::plain;
 ghost use mathlib.Core.Path.{_≡_};
 ghost use mathlib.Core.Logic.{_↔_};
-ghost use Prim.Native.Nat.{_≤_};
 ghost use lib.ListN.{length};
 ghost use Rattle.codegen.specs.Generation.{lowered, recordsAfter};
 ghost use Rattle.machine.specs.Plain.{Plain, firstFault};
 ghost use Rattle.machine.specs.Calls.{Demand2};
 ghost use Rattle.machine.specs.Simulation.{Demand3};
-ghost use Rattle.engine.specs.Numbers.{numberOf, valueOf, yesOf, faultOf};
+ghost use Rattle.engine.specs.Numbers.{numberOf, IsNumber, valueOf, yesOf, faultOf};
 
 // Lowers the sheet. Gives 0, with the number of records in `place`, or the number of a refusal, with its place.
 #[no_mangle]
@@ -22,7 +21,7 @@ pub extern "C" fn gilthoren_lower(
     place: &mut u64,
 ) -> u64
     ensures number { λ r. ⌜ r ≡ numberOf (lowered (now (tables .entry)) (now (sheet .entry)) (length (now (records .entry)))) ⌝ }
-    ensures known { λ r. ⌜ (r ≤ 9) × (r ≡ 8 → ⊥) ⌝ }
+    ensures known { λ r. ⌜ IsNumber r ⌝ }
     ensures place { λ r. ⌜ now (place .exit) ≡ valueOf (lowered (now (tables .entry)) (now (sheet .entry)) (length (now (records .entry)))) ⌝ }
     ensures bytes { λ r. ⌜ now (records .exit) ≡ recordsAfter (lowered (now (tables .entry)) (now (sheet .entry)) (length (now (records .entry)))) (now (records .entry)) ⌝ }
     ensures lent { λ r. ⌜ (now (tables .exit) ≡ now (tables .entry)) × (now (sheet .exit) ≡ now (sheet .entry)) ⌝ }
