@@ -23,6 +23,8 @@ use x86::enums::ExtendOp;
 use x86::enums::Instruction;
 use x86::enums::Operand;
 use x86::enums::Size;
+use x86::forms::put_convert;
+use x86::forms::put_extend;
 use x86::record::put_instruction;
 use x86::register::Register;
 ghost use mathlib.Core.Path.{_≡_};
@@ -165,12 +167,12 @@ fn put_source(out: &mut [u8], at: usize, s: Source)
     if s.constant {
         put_load(out, at, Register::RAX, operand, constant_size(s.size));
         if s.byte {
-            put_instruction(out, at + 64, movzx(Operand::Reg(Register::RAX)));
+            put_extend(out, at + 64, movzx(Operand::Reg(Register::RAX)));
         }
         return;
     }
     if s.byte {
-        put_instruction(out, at, movzx(operand));
+        put_extend(out, at, movzx(operand));
     }
 }
 
@@ -211,7 +213,7 @@ fn put_converted(
     let size = t.size;
     let place = at + 64 * source_count(s) as usize;
     put_source(out, at, s);
-    put_instruction(
+    put_convert(
         out,
         place,
         Instruction::Convert {
@@ -281,7 +283,7 @@ fn put_extended(out: &mut [u8], at: usize, s: Source, t: Stored)
     let place = at + 64 * source_count(s) as usize;
     put_source(out, at, s);
     if is_extended(s) {
-        put_instruction(
+        put_extend(
             out,
             place,
             Instruction::Extend {

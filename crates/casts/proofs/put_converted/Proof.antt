@@ -8,18 +8,18 @@ use Rattle.casts.proofs.put_converted.Tie as tie
 put-source-requires : tie.Need-put-source-requires
 put-source-requires c κs = let h = rw two-behind at (c .before .before .before .pre) in omega arith
 
-put-instruction-requires : tie.Need-put-instruction-requires
-put-instruction-requires c κs = let h = rw two-behind at (c .before .before .before .before .before .before .before .before .pre) in omega arith
+put-convert-requires : tie.Need-put-convert-requires
+put-convert-requires c κs = let h = rw two-behind at (c .before .before .before .before .before .before .before .before .pre) in omega arith
 
-put-instruction-requires-2 : tie.Need-put-instruction-requires-2
-put-instruction-requires-2 c κs = let h = rw two-behind at (c .before .before .before .before .before .before .before .before .before .before .before .before .pre) in omega arith
+put-instruction-requires : tie.Need-put-instruction-requires
+put-instruction-requires c κs = let h = rw two-behind at (c .before .before .before .before .before .before .before .before .before .before .before .before .pre) in omega arith
 
 returns : tie.Need-returns
-returns c = let h = rw two-behind at (c .before .before .before .before .before .before .before .before .before .before .before .before .before .before .before .pre) in both _ _ _ _ _ _ _ (c .before .before .before .before .before .before .before .before .before .before .before .put-source .ensures) (puts (first (rw (c .before .before .before .before .before .before .before .source-operand .ensures) at (c .before .before .before .before .before .before .put-instruction .ensures)) (put (c .before .before .put-instruction2 .ensures) done)) (omega arith)) (omega arith) (omega arith)
+returns c = let h = rw two-behind at (c .before .before .before .before .before .before .before .before .before .before .before .before .before .before .before .pre) in both _ _ _ _ _ _ _ (c .before .before .before .before .before .before .before .before .before .before .before .put-source .ensures) (puts (first (rw (c .before .before .before .before .before .before .before .source-operand .ensures) at (c .before .before .before .before .before .before .put-convert .ensures)) (put (c .before .before .put-instruction .ensures) done)) (omega arith)) (omega arith) (omega arith)
 
 pub put-converted-spec : {M : Type 1} → statement M
 put-converted-spec =
     tie.close
     (tie.spec
-    (λ c κs. search needs) (λ c. search needs) (λ c. search needs) put-source-requires (λ c κs. search needs) put-instruction-requires
-    (λ c. search needs) put-instruction-requires-2 (λ c. search needs) returns)
+    (λ c κs. search needs) (λ c. search needs) (λ c. search needs) put-source-requires (λ c κs. search needs) put-convert-requires
+    (λ c. search needs) put-instruction-requires (λ c. search needs) returns)
