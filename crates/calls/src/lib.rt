@@ -40,7 +40,7 @@ fn is_float_constant(op: IrOp) -> bool
     if let IrOp::Float(_) = op { true } else { false }
 }
 
-// Whether an argument is a float.
+// It says whether an argument is a float.
 fn is_floating(op: IrOp) -> bool
     ensures { λ r. ⌜ r ≡ floating op ⌝ }
 {
@@ -51,7 +51,7 @@ fn is_floating(op: IrOp) -> bool
     ty.is_float()
 }
 
-// How many of the `count` arguments from cell `from` on are in excess. Six find their registers, whatever they are.
+// It counts the arguments in excess among the `count` from cell `from` on. Six find their registers, whatever they are.
 fn count_excess(sheet: &[u8], count: u64, from: usize) -> u64
     requires { ⌜ from + 4 * count ≤ cells (now sheet) ⌝ }
     requires { ⌜ count ≤ 64 ⌝ }
@@ -101,7 +101,7 @@ fn push_one(
     }
 }
 
-// No record for an argument that finds a register.
+// An argument that finds a register has no record on the stack.
 fn push_argument(
     tables: &[u8],
     offsets: &[u64],
@@ -123,7 +123,7 @@ fn push_argument(
     CountResult::Records(0)
 }
 
-// The arguments in excess, among the `count` from cell `from` on.
+// It puts the arguments in excess, among the `count` from cell `from` on, on the stack.
 fn push_arguments(
     tables: &[u8],
     offsets: &[u64],
@@ -158,7 +158,7 @@ fn push_arguments(
     CountResult::Records(2 * taken.stack)
 }
 
-// The area of `k` arguments in excess: the least multiple of 16 not below 8k.
+// The area of `k` arguments in excess is the least multiple of 16 not below 8k.
 fn call_area(k: u64) -> u64
     requires { ⌜ k ≤ 64 ⌝ }
     ensures { λ r. ⌜ r ≡ callArea k ⌝ }
@@ -166,7 +166,7 @@ fn call_area(k: u64) -> u64
     (8 * k + 15) / 16 * 16
 }
 
-// RSP is lowered or raised by that area, if there are any.
+// RSP is lowered or raised by that area, if there are any of them.
 fn move_stack(op: BinOp, k: u64, out: &mut [u8], at: usize, write: bool) -> CountResult
     requires { ⌜ k ≤ 64 ⌝ }
     requires { ⌜ Ready write (ok (moveStack op k)) at (length (now out)) ⌝ }
@@ -213,7 +213,7 @@ fn stack_arguments(
     }
 }
 
-// An argument into the register that it finds; no record for one in excess.
+// An argument goes into the register that it finds. One in excess has no record here.
 fn load_argument(
     tables: &[u8],
     offsets: &[u64],
@@ -233,7 +233,7 @@ fn load_argument(
     load_operand(tables, offsets, taken.register(float), op, out, at, write)
 }
 
-// The loads of the `count` arguments from cell `from` on, and of the number of floats in registers, in RAX.
+// It loads those of the `count` arguments from cell `from` on that find a register, and then the number of floats among them into RAX.
 fn load_arguments(
     tables: &[u8],
     offsets: &[u64],
@@ -272,7 +272,7 @@ fn load_arguments(
     CountResult::Records(loads + 1)
 }
 
-// The call, and RSP raised again.
+// RSP is raised again behind the call.
 fn call_raised(symbol: u64, k: u64, out: &mut [u8], at: usize, write: bool) -> CountResult
     requires { ⌜ k ≤ 64 ⌝ }
     requires { ⌜ at ≤ 8589934592 ⌝ }
@@ -313,7 +313,7 @@ fn put_result(out: &mut [u8], at: usize, t: Slot, float: bool)
     put_instruction(out, at, mov(var, Operand::Reg(Register::RAX), size));
 }
 
-// The store of a result that is kept.
+// A result that is kept is stored.
 fn store_kept(
     tables: &[u8],
     offsets: &[u64],
@@ -354,7 +354,7 @@ fn store_result(
     store_kept(tables, offsets, v, out, at, write)
 }
 
-// The call with RSP raised, and the store of its result.
+// The result is stored behind the call, when RSP is raised.
 fn call_symbol(
     tables: &[u8],
     offsets: &[u64],

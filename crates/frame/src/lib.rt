@@ -239,7 +239,7 @@ fn store_params(
     CountResult::Records(k)
 }
 
-// What a parameter in excess is copied into: the size is looked up before the slot.
+// Of a parameter in excess the size is looked up before the slot.
 fn look_copied(tables: &[u8], offsets: &[u64], p: VarId) -> SlotResult
     ensures { λ r. ⌜ slotSays r ≡ lookCopied (lent (now (tables .entry)) (now (offsets .entry))) p ⌝ }
 {
@@ -253,7 +253,7 @@ fn look_copied(tables: &[u8], offsets: &[u64], p: VarId) -> SlotResult
     }
 }
 
-// From RBP plus 16 plus 8j, through RAX, into its slot.
+// It is copied from RBP plus 16 plus 8j, through RAX, into its slot.
 fn put_copy(out: &mut [u8], at: usize, j: u64, t: Slot)
     requires { ⌜ j ≤ 256 ⌝ }
     requires { ⌜ at + 128 ≤ length (now out) ⌝ }
@@ -293,7 +293,7 @@ fn copy_one(
     }
 }
 
-// No record for a parameter that came in a register.
+// A parameter that came in a register has no copy.
 fn copy_param(
     tables: &[u8],
     offsets: &[u64],
@@ -314,7 +314,7 @@ fn copy_param(
     CountResult::Records(0)
 }
 
-// The copies of the parameters in excess, among `n` from cell `from` on. Six have come in registers, whatever they are.
+// It copies the parameters in excess, among `n` from cell `from` on. Six have come in registers, whatever they are.
 fn copy_params(
     tables: &[u8],
     offsets: &[u64],

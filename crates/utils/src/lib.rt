@@ -373,7 +373,7 @@ pub fn put_load(out: &mut [u8], at: usize, reg: Register, src: Operand, size: Si
     );
 }
 
-// A record that asks for no look-up.
+// It makes a record that asks for no look-up.
 pub fn one_record(out: &mut [u8], at: usize, i: Instruction, write: bool) -> CountResult
     requires { ⌜ Ready write (ok (i ∷ [])) at (length (now out)) ⌝ }
     ensures { λ r. ⌜ Makes write (ok (i ∷ [])) at (now (out .entry)) (now (out .exit)) r ⌝ }

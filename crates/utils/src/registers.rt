@@ -1,4 +1,5 @@
-// `PARAM_REGS` and `PARAM_FREGS` of Krc's codegen/instructions.rs: the registers of parameters and arguments; and what is in excess of them (M-112).
+// `PARAM_REGS` and `PARAM_FREGS` of Krc's codegen/instructions.rs are the registers of parameters and arguments. `Taken` says which of these are in excess of
+// the registers (M-112).
 use x86::register::Register;
 ghost use mathlib.Core.Path.{_≡_};
 ghost use Prim.Native.Nat.{_≤_};
@@ -44,7 +45,7 @@ pub fn registers(float: bool) -> u64
     if float { 8 } else { 6 }
 }
 
-// How many general registers, XMM registers and eightbytes of the stack the arguments or parameters before one have taken.
+// So many general registers, XMM registers and eightbytes of the stack are taken by the arguments or parameters before one.
 pub struct Taken {
     pub words: u64,
     pub floats: u64,
@@ -58,7 +59,7 @@ impl Taken {
         stack: 0,
     };
 
-    // It finds the registers of its kind taken.
+    // It says whether that one finds the registers of its kind taken.
     pub fn is_beyond(self, float: bool) -> bool
         ensures { λ r. ⌜ r ≡ isBeyond float self ⌝ }
     {
@@ -69,7 +70,7 @@ impl Taken {
         }
     }
 
-    // The register that it finds.
+    // This is the register that it finds.
     pub fn register(self, float: bool) -> Register
         ensures { λ r. ⌜ r ≡ registerOf float (self .words) (self .floats) ⌝ }
     {
@@ -80,7 +81,7 @@ impl Taken {
         }
     }
 
-    // With it.
+    // It adds that one, which takes a register or an eightbyte of the stack.
     pub fn with(self, float: bool) -> Taken
         requires { ⌜ self .stack ≤ 256 ⌝ }
         ensures { λ r. ⌜ r ≡ behindOne float self ⌝ }

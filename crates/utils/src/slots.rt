@@ -1,4 +1,4 @@
-// A variable that is stored to: its slot and its size.
+// A variable that is stored to has a slot and a size.
 use crate::OperandResult;
 use crate::SizeResult;
 use crate::convert_var;
