@@ -4,9 +4,10 @@ use ir::Type;
 use ir::UnaryOp as IrUnary;
 use ir::read::type_at;
 use operations::division;
+use operations::float_operation;
 use operations::multiplication;
-use operations::one_load;
 use operations::shift;
+use operations::simple_operation;
 use utils::CountResult;
 use utils::OperandResult;
 use utils::SizeResult;
@@ -33,37 +34,59 @@ ghost use Rattle.cells.specs.Cells.{cells, write};
 ghost use Rattle.ir.specs.Types.{isUnsigned};
 ghost use Rattle.ir.specs.Function.{varAt, operandAt, binaryOp};
 ghost use Rattle.x86.specs.Records.{recordOf, recordBytes, listBytes};
-ghost use Rattle.codegen.specs.Arithmetic.{generateBinary, signBit, generateUnary};
+ghost use Rattle.codegen.specs.Arithmetic.{floatBinary, integerBinary, generateBinary, signBit, generateUnary};
 ghost use Rattle.utils.specs.Answers.{lent};
 ghost use Rattle.utils.specs.Makes.{Makes, Ready};
-ghost use Rattle.arithmetic.specs.Codes.{comparisonCode};
-ghost use Rattle.arithmetic.specs.Choices.{ChoosesFloat, ChoosesInteger, Chooses};
+ghost use Rattle.arithmetic.specs.Codes.{floatCode, simpleCode, comparisonCode, shiftCode, resultRegister};
 ghost use Rattle.arithmetic.specs.Unary.{changedSays, lookUnary, changedOf, signOf, unaryRecord, isNegation, flipsSign};
 
-// How a binary operation is lowered. A load into a register has the operation on it and the store behind it.
-pub enum Chosen {
-    OneLoad(Register, BinOp, BinOp),
-    Compare(ConditionCode),
-    Shift(ShiftOp),
-    Multiply,
-    Divide(Register),
-    Refused(u64),
-}
-
-// Only + - * / are done on a float.
-fn float_binary(op: u64) -> Chosen
-    ensures { λ r. ⌜ ChoosesFloat op r ⌝ }
+// The code of a float's operation, by its number.
+fn float_code(op: u64) -> BinOp
+    ensures { λ r. ⌜ r ≡ floatCode op ⌝ }
 {
     match op {
-        13 => Chosen::OneLoad(Register::XMM0, BinOp::AddF, BinOp::StoreF),
-        14 => Chosen::OneLoad(Register::XMM0, BinOp::SubF, BinOp::StoreF),
-        15 => Chosen::OneLoad(Register::XMM0, BinOp::MulF, BinOp::StoreF),
-        16 => Chosen::OneLoad(Register::XMM0, BinOp::DivF, BinOp::StoreF),
-        _ => Chosen::Refused(7),
+        13 => BinOp::AddF,
+        14 => BinOp::SubF,
+        15 => BinOp::MulF,
+        _ => BinOp::DivF,
     }
 }
 
-// The code of a comparison, by its operation's number.
+// Only + - * / are done on a float.
+fn float_binary(
+    tables: &[u8],
+    offsets: &[u64],
+    s: &[u8],
+    k: usize,
+    op: u64,
+    out: &mut [u8],
+    at: usize,
+    write: bool,
+) -> CountResult
+    requires { ⌜ k + 13 ≤ cells (now s) ⌝ }
+    requires { ⌜ Ready write (floatBinary (lent (now tables) (now offsets)) (varAt (now s) (k + 2)) (binaryOp op) (operandAt (now s) (k + 5)) (operandAt (now s) (k + 9))) at (length (now out)) ⌝ }
+    ensures { λ r. ⌜ Makes write (floatBinary (lent (now (tables .entry)) (now (offsets .entry))) (varAt (now (s .entry)) (k + 2)) (binaryOp op) (operandAt (now (s .entry)) (k + 5)) (operandAt (now (s .entry)) (k + 9))) at (now (out .entry)) (now (out .exit)) r ⌝ }
+{
+    match op {
+        13..=16 => float_operation(tables, offsets, s, k, float_code(op), out, at, write),
+        _ => CountResult::Refused(7),
+    }
+}
+
+// The code of an operation on RAX and right.
+fn simple_code(op: u64) -> BinOp
+    ensures { λ r. ⌜ r ≡ simpleCode op ⌝ }
+{
+    match op {
+        2 => BinOp::Or,
+        3 => BinOp::Xor,
+        4 => BinOp::And,
+        13 => BinOp::Add,
+        _ => BinOp::Sub,
+    }
+}
+
+// The code of a comparison.
 fn comparison_code(op: u64) -> ConditionCode
     ensures { λ r. ⌜ r ≡ comparisonCode op ⌝ }
 {
@@ -88,37 +111,62 @@ fn right_shift(ty: Type) -> ShiftOp
     }
 }
 
-// The logical pair never reaches the lowering.
-fn integer_binary(op: u64, ty: Type) -> Chosen
-    ensures { λ r. ⌜ ChoosesInteger op ty r ⌝ }
+fn shift_code(op: u64, ty: Type) -> ShiftOp
+    ensures { λ r. ⌜ r ≡ shiftCode op ty ⌝ }
 {
     match op {
-        0..=1 => Chosen::Refused(7),
-        2 => Chosen::OneLoad(Register::RAX, BinOp::Or, BinOp::Mov),
-        3 => Chosen::OneLoad(Register::RAX, BinOp::Xor, BinOp::Mov),
-        4 => Chosen::OneLoad(Register::RAX, BinOp::And, BinOp::Mov),
-        5..=10 => Chosen::Compare(comparison_code(op)),
-        11 => Chosen::Shift(ShiftOp::Shl),
-        12 => Chosen::Shift(right_shift(ty)),
-        13 => Chosen::OneLoad(Register::RAX, BinOp::Add, BinOp::Mov),
-        14 => Chosen::OneLoad(Register::RAX, BinOp::Sub, BinOp::Mov),
-        15 => Chosen::Multiply,
-        16 => Chosen::Divide(Register::RAX),
-        _ => Chosen::Divide(Register::RDX),
+        11 => ShiftOp::Shl,
+        _ => right_shift(ty),
     }
 }
 
-// By dest's type and the operation's position in Krc's `BinaryOp`.
-fn choose(op: u64, ty: Type) -> Chosen
-    ensures { λ r. ⌜ Chooses op ty r ⌝ }
+// The quotient comes in RAX, the remainder in RDX.
+fn result_register(op: u64) -> Register
+    ensures { λ r. ⌜ r ≡ resultRegister op ⌝ }
 {
-    if ty.is_float() {
-        return float_binary(op);
+    match op {
+        16 => Register::RAX,
+        _ => Register::RDX,
     }
-    integer_binary(op, ty)
 }
 
-// `dest = left op right`, sized by dest. What is done is chosen first, so that each maker is called from one place, where it is inlined.
+// Each maker has one call. The logical pair never reaches the lowering.
+fn integer_binary(
+    tables: &[u8],
+    offsets: &[u64],
+    s: &[u8],
+    k: usize,
+    op: u64,
+    out: &mut [u8],
+    at: usize,
+    write: bool,
+) -> CountResult
+    requires { ⌜ k + 13 ≤ cells (now s) ⌝ }
+    requires { ⌜ Ready write (integerBinary (lent (now tables) (now offsets)) (varAt (now s) (k + 2)) (binaryOp op) (operandAt (now s) (k + 5)) (operandAt (now s) (k + 9))) at (length (now out)) ⌝ }
+    ensures { λ r. ⌜ Makes write (integerBinary (lent (now (tables .entry)) (now (offsets .entry))) (varAt (now (s .entry)) (k + 2)) (binaryOp op) (operandAt (now (s .entry)) (k + 5)) (operandAt (now (s .entry)) (k + 9))) at (now (out .entry)) (now (out .exit)) r ⌝ }
+{
+    match op {
+        0..=1 => CountResult::Refused(7),
+        2..=4 | 13..=14 => {
+            simple_operation(tables, offsets, s, k, simple_code(op), out, at, write)
+        }
+        5..=10 => comparison(tables, offsets, s, k, comparison_code(op), out, at, write),
+        11..=12 => shift(
+            tables,
+            offsets,
+            s,
+            k,
+            shift_code(op, type_at(s, k + 3)),
+            out,
+            at,
+            write,
+        ),
+        15 => multiplication(tables, offsets, s, k, out, at, write),
+        _ => division(tables, offsets, s, k, result_register(op), out, at, write),
+    }
+}
+
+// `dest = left op right`, sized by dest; `op` is a position in Krc's `BinaryOp`.
 pub fn generate_binary(
     tables: &[u8],
     offsets: &[u64],
@@ -133,25 +181,11 @@ pub fn generate_binary(
     requires { ⌜ Ready write (generateBinary (lent (now tables) (now offsets)) (varAt (now s) (k + 2)) (binaryOp op) (operandAt (now s) (k + 5)) (operandAt (now s) (k + 9))) at (length (now out)) ⌝ }
     ensures { λ r. ⌜ Makes write (generateBinary (lent (now (tables .entry)) (now (offsets .entry))) (varAt (now (s .entry)) (k + 2)) (binaryOp op) (operandAt (now (s .entry)) (k + 5)) (operandAt (now (s .entry)) (k + 9))) at (now (out .entry)) (now (out .exit)) r ⌝ }
 {
-    match choose(op, type_at(s, k + 3)) {
-        Chosen::OneLoad(reg, op, store) => one_load(
-            tables,
-            offsets,
-            s,
-            k,
-            reg,
-            op,
-            store,
-            out,
-            at,
-            write,
-        ),
-        Chosen::Compare(cc) => comparison(tables, offsets, s, k, cc, out, at, write),
-        Chosen::Shift(op) => shift(tables, offsets, s, k, op, out, at, write),
-        Chosen::Multiply => multiplication(tables, offsets, s, k, out, at, write),
-        Chosen::Divide(result) => division(tables, offsets, s, k, result, out, at, write),
-        Chosen::Refused(n) => CountResult::Refused(n),
+    let ty = type_at(s, k + 3);
+    if ty.is_float() {
+        return float_binary(tables, offsets, s, k, op, out, at, write);
     }
+    integer_binary(tables, offsets, s, k, op, out, at, write)
 }
 
 // A source, dest's slot and dest's size.

@@ -8,7 +8,7 @@ use lib.ListN.{length, length-append}
 use Rattle.cells.specs.Cells.{write}
 use Rattle.ir.specs.declared.VarId.{VarId}
 use Rattle.ir.specs.declared.Operand.{Operand as IrOp}
-use Rattle.ir.specs.Types.{ok, isUnsigned}
+use Rattle.ir.specs.Types.{Result, ok, _>>=_, isUnsigned}
 use Rattle.ir.specs.Function.{typeAt, varAt}
 use Rattle.x86.specs.declared.register.Register.{Register}
 use Rattle.x86.specs.declared.enums.Size.{Size}
@@ -17,27 +17,43 @@ use Rattle.x86.specs.declared.enums.BinOp.{BinOp}
 use Rattle.x86.specs.declared.enums.ComplexBinOp.{ComplexBinOp}
 use Rattle.x86.specs.declared.enums.ShiftOp.{ShiftOp}
 use Rattle.x86.specs.declared.enums.Instruction.{Instruction}
-use Rattle.x86.specs.Registers.{RAX, RCX}
+use Rattle.x86.specs.Registers.{xmm, RAX, RCX}
 use Rattle.x86.specs.Records.{recordOf, recordBytes, listBytes}
 use Rattle.x86.proofs.Lists.{Puts, done, first, puts, both, wrote-length}
 use Rattle.codegen.specs.Context.{Context}
-use Rattle.codegen.specs.Utils.{varSize, convertVar, convertOperand}
-use Rattle.codegen.specs.Arithmetic.{twoLoads, dividing, division, multiplication, shift}
+use Rattle.codegen.specs.Utils.{varSize, convertVar, convertOperand, loadOperand}
+use Rattle.codegen.specs.Arithmetic.{simpleOperation, floatOperation, twoLoads, dividing, division, multiplication, shift}
 use Rattle.utils.specs.declared.CountResult.{CountResult}
 use Rattle.utils.specs.Makes.{listed, Makes, Ready}
 use Rattle.utils.proofs.Sources.{rung, rung-of, rung-load, var-given}
 use Rattle.utils.proofs.Made.{has-room, makes, counts}
 use Rattle.operations.specs.declared.Sides.{Sides}
-use Rattle.operations.specs.Loads.{lookOperand, lookLoads, oneLoadOf, twoLoadsOf, oneLoad}
+use Rattle.operations.specs.Loads.{lookOperand, lookLoads, oneLoadOf, twoLoadsOf}
 
-pub one-looked : (ctx : Context) (dest : VarId) (left right : IrOp) (reg : Register) (op store : BinOp)
-    → oneLoad ctx dest left right reg op store ≡ listed (lookOperand ctx dest left right) (oneLoadOf reg op store)
-unfolding oneLoad
-one-looked ctx dest left right reg op store =
-    rung-of (varSize dest) _ _ _ (var-given dest)
-    (λ z s. rung-load ctx reg left z _ _ _ s (λ x. rung (convertOperand ctx right) _ _ _ (λ y. rung (convertVar ctx dest) _ _ _ (λ v. refl))))
+-- codegen's `simpleOperation` and `floatOperation`, over the register and the store
+abbrev oneLoad : Context → VarId → IrOp → IrOp → Register → BinOp → BinOp → Result (List Instruction)
+oneLoad ctx dest left right reg op store = do
+  size ← varSize dest
+  load ← loadOperand ctx reg left size
+  src ← convertOperand ctx right
+  var ← convertVar ctx dest
+  ok (load ∷ Instruction.Binary op (Operand.Reg reg) src size ∷ Instruction.Binary store var (Operand.Reg reg) size ∷ [])
 
 module _ (ctx : Context) (dest : VarId) (left right : IrOp) where
+  one-looked : (reg : Register) (op store : BinOp)
+      → oneLoad ctx dest left right reg op store ≡ listed (lookOperand ctx dest left right) (oneLoadOf reg op store)
+  one-looked reg op store =
+      rung-of (varSize dest) _ _ _ (var-given dest)
+      (λ z s. rung-load ctx reg left z _ _ _ s (λ x. rung (convertOperand ctx right) _ _ _ (λ y. rung (convertVar ctx dest) _ _ _ (λ v. refl))))
+
+  pub simple-looked : (op : BinOp) → simpleOperation ctx dest left right op ≡ listed (lookOperand ctx dest left right) (oneLoadOf RAX op BinOp.Mov)
+  unfolding simpleOperation
+  simple-looked op = one-looked RAX op BinOp.Mov
+
+  pub float-looked : (op : BinOp) → floatOperation ctx dest left right op ≡ listed (lookOperand ctx dest left right) (oneLoadOf (xmm 0) op BinOp.StoreF)
+  unfolding floatOperation
+  float-looked op = one-looked (xmm 0) op BinOp.StoreF
+
   two-looked : (operation : Size → List Instruction) (result : Register)
       → twoLoads ctx dest left right operation result ≡ listed (lookLoads ctx dest left right) (twoLoadsOf operation result)
   unfolding twoLoads

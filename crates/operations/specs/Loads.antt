@@ -1,4 +1,4 @@
--- Auxiliary: what an operation's look-ups find, and its records, made of that. `oneLoad` and codegen's `twoLoads` are these two, by `one-looked` and `two-looked` (proofs/Looked).
+-- Auxiliary: what an operation's look-ups find, and its records, made of that. codegen's `simpleOperation`, `floatOperation` and `twoLoads` are these two, by `simple-looked`, `float-looked` and `two-looked` (proofs/Looked).
 use mathlib.Core.List.{List, [], _∷_, _++_}
 use Rattle.ir.specs.declared.VarId.{VarId}
 use Rattle.ir.specs.declared.Operand.{Operand as IrOp}
@@ -11,7 +11,7 @@ use Rattle.x86.specs.declared.enums.ComplexBinOp.{ComplexBinOp}
 use Rattle.x86.specs.declared.enums.Instruction.{Instruction}
 use Rattle.x86.specs.Registers.{RAX, RCX}
 use Rattle.codegen.specs.Context.{Context}
-use Rattle.codegen.specs.Utils.{varSize, convertVar, convertOperand, loadOperand}
+use Rattle.codegen.specs.Utils.{varSize, convertVar, convertOperand}
 use Rattle.codegen.specs.Instructions.{move}
 use Rattle.utils.specs.Sources.{sourceOf, loadOf}
 use Rattle.operations.specs.declared.Sides.{Sides}
@@ -56,12 +56,3 @@ middleOf (Middle.Shift op) size = Instruction.Shift op (Operand.Reg RAX) (Operan
 abbrev pub twoLoadsOf : (Size → List Instruction) → Register → Sides → List Instruction
 twoLoadsOf operation result t =
     loadOf RAX (t .left) (t .size) ∷ loadOf RCX (t .right) (t .size) ∷ operation (t .size) ++ move (t .var) (Operand.Reg result) (t .size) ∷ []
-
--- left into a register, the operation on it and right, and its store to dest: codegen's `simpleOperation` and `floatOperation`, over the register and the store
-unfoldable pub oneLoad : Context → VarId → IrOp → IrOp → Register → BinOp → BinOp → Result (List Instruction)
-oneLoad ctx dest left right reg op store = do
-  size ← varSize dest
-  load ← loadOperand ctx reg left size
-  src ← convertOperand ctx right
-  var ← convertVar ctx dest
-  ok (load ∷ Instruction.Binary op (Operand.Reg reg) src size ∷ Instruction.Binary store var (Operand.Reg reg) size ∷ [])

@@ -29,10 +29,10 @@ ghost use Rattle.cells.specs.Cells.{cells, write};
 ghost use Rattle.ir.specs.Function.{varAt, operandAt};
 ghost use Rattle.x86.specs.Registers.{RAX, RCX};
 ghost use Rattle.x86.specs.Records.{recordOf, recordBytes, listBytes};
-ghost use Rattle.codegen.specs.Arithmetic.{signInto, dividing, division, multiplication, shift};
+ghost use Rattle.codegen.specs.Arithmetic.{simpleOperation, floatOperation, signInto, dividing, division, multiplication, shift};
 ghost use Rattle.utils.specs.Answers.{lent};
 ghost use Rattle.utils.specs.Makes.{Makes, Ready};
-ghost use Rattle.operations.specs.Loads.{sidesSay, lookOperand, lookLoads, oneLoad, oneLoadOf, middleOf, twoLoadsOf};
+ghost use Rattle.operations.specs.Loads.{sidesSay, lookOperand, lookLoads, oneLoadOf, middleOf, twoLoadsOf};
 
 // Left's source, right, dest's slot and dest's size.
 pub struct Sides {
@@ -140,27 +140,51 @@ fn put_one_load(out: &mut [u8], at: usize, t: Sides, reg: Register, op: BinOp, s
     );
 }
 
-// Left into a register, the operation on it and right, and its store to dest: `mov rax, left ; op rax, right ; mov [dest], rax`, or the same on XMM0.
-pub fn one_load(
+// `mov rax, left ; op rax, right ; mov [dest], rax`
+pub fn simple_operation(
     tables: &[u8],
     offsets: &[u64],
     s: &[u8],
     k: usize,
-    reg: Register,
     op: BinOp,
-    store: BinOp,
     out: &mut [u8],
     at: usize,
     write: bool,
 ) -> CountResult
     requires { ⌜ k + 13 ≤ cells (now s) ⌝ }
-    requires { ⌜ Ready write (oneLoad (lent (now tables) (now offsets)) (varAt (now s) (k + 2)) (operandAt (now s) (k + 5)) (operandAt (now s) (k + 9)) reg op store) at (length (now out)) ⌝ }
-    ensures { λ r. ⌜ Makes write (oneLoad (lent (now (tables .entry)) (now (offsets .entry))) (varAt (now (s .entry)) (k + 2)) (operandAt (now (s .entry)) (k + 5)) (operandAt (now (s .entry)) (k + 9)) reg op store) at (now (out .entry)) (now (out .exit)) r ⌝ }
+    requires { ⌜ Ready write (simpleOperation (lent (now tables) (now offsets)) (varAt (now s) (k + 2)) (operandAt (now s) (k + 5)) (operandAt (now s) (k + 9)) op) at (length (now out)) ⌝ }
+    ensures { λ r. ⌜ Makes write (simpleOperation (lent (now (tables .entry)) (now (offsets .entry))) (varAt (now (s .entry)) (k + 2)) (operandAt (now (s .entry)) (k + 5)) (operandAt (now (s .entry)) (k + 9)) op) at (now (out .entry)) (now (out .exit)) r ⌝ }
 {
     match look_operand(tables, offsets, s, k) {
         SidesResult::Are(t) => {
             if write {
-                put_one_load(out, at, t, reg, op, store);
+                put_one_load(out, at, t, Register::RAX, op, BinOp::Mov);
+            }
+            CountResult::Records(3)
+        }
+        SidesResult::Refused(n) => CountResult::Refused(n),
+    }
+}
+
+// `movsd xmm0, left ; op xmm0, right ; movsd [dest], xmm0`
+pub fn float_operation(
+    tables: &[u8],
+    offsets: &[u64],
+    s: &[u8],
+    k: usize,
+    op: BinOp,
+    out: &mut [u8],
+    at: usize,
+    write: bool,
+) -> CountResult
+    requires { ⌜ k + 13 ≤ cells (now s) ⌝ }
+    requires { ⌜ Ready write (floatOperation (lent (now tables) (now offsets)) (varAt (now s) (k + 2)) (operandAt (now s) (k + 5)) (operandAt (now s) (k + 9)) op) at (length (now out)) ⌝ }
+    ensures { λ r. ⌜ Makes write (floatOperation (lent (now (tables .entry)) (now (offsets .entry))) (varAt (now (s .entry)) (k + 2)) (operandAt (now (s .entry)) (k + 5)) (operandAt (now (s .entry)) (k + 9)) op) at (now (out .entry)) (now (out .exit)) r ⌝ }
+{
+    match look_operand(tables, offsets, s, k) {
+        SidesResult::Are(t) => {
+            if write {
+                put_one_load(out, at, t, Register::XMM0, op, BinOp::StoreF);
             }
             CountResult::Records(3)
         }

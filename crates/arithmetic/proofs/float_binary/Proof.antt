@@ -1,32 +1,23 @@
-use Rattle.ir.specs.Function.{binaryOp}
-use Rattle.codegen.specs.Arithmetic.{floatOperation}
-use Rattle.operations.specs.Loads.{oneLoad}
-use Rattle.arithmetic.proofs.Numbers.{not-float}
+use Rattle.utils.proofs.Made.{no-list, ready-as, makes-as}
+use Rattle.arithmetic.proofs.Numbers.{floating, float-below, float-above}
 use borrow.Author.Needs.{needs}
 use Rattle.arithmetic.proofs.float_binary.Statement.{statement}
 use Rattle.arithmetic.proofs.float_binary.Tie as tie
 
+float-operation-requires : tie.Need-float-operation-requires
+float-operation-requires c κs = (c .before .before .before .before .before .before .before .before .pre .0, ready-as (floating _ _ _ _ _ (c .before .float-code .ensures) (c .before .before .before .if1 .left) (c .before .before .if2 .taken)) (c .before .before .before .before .before .before .before .before .pre .1))
+
 returns : tie.Need-returns
-unfolding binaryOp floatOperation oneLoad
-returns c = record { list = λ ctx dest left right. rw (c .match .keys1) }
+returns c = makes-as (floating _ _ _ _ _ (c .before .before .before .before .float-code .ensures) (c .before .before .before .before .before .before .if1 .left) (c .before .before .before .before .before .if2 .taken)) (c .before .before .float-operation .ensures)
 
 returns-2 : tie.Need-returns-2
-unfolding binaryOp floatOperation oneLoad
-returns-2 c = record { list = λ ctx dest left right. rw (c .match .keys2) }
+returns-2 c = no-list (float-below _ _ _ _ _ (c .if1 .taken))
 
 returns-3 : tie.Need-returns-3
-unfolding binaryOp floatOperation oneLoad
-returns-3 c = record { list = λ ctx dest left right. rw (c .match .keys3) }
-
-returns-4 : tie.Need-returns-4
-unfolding binaryOp floatOperation oneLoad
-returns-4 c = record { list = λ ctx dest left right. rw (c .match .keys4) }
-
-returns-5 : tie.Need-returns-5
-returns-5 c = record { list = λ ctx dest left right. not-float ctx dest left right _ (c .match .rest .0 .0 .0 .1) (c .match .rest .0 .0 .1) (c .match .rest .0 .1) (c .match .rest .1) }
+returns-3 c = no-list (float-above _ _ _ _ _ (c .if2 .left))
 
 pub float-binary-spec : {M : Type 1} → statement M
 float-binary-spec =
     tie.close
     (tie.spec
-    returns returns-2 returns-3 returns-4 returns-5)
+    (λ c κs. search needs) float-operation-requires (λ c. search needs) returns returns-2 returns-3)
