@@ -1,5 +1,6 @@
 // Krc's codegen/arithmetic.rs: `generate_binary`, the choice over the eighteen binary operations, and `generate_unary`.
 use comparisons::comparison;
+use forms::put_unary;
 use ir::Type;
 use ir::UnaryOp as IrUnary;
 use ir::read::type_at;
@@ -23,7 +24,6 @@ use x86::enums::Operand;
 use x86::enums::ShiftOp;
 use x86::enums::Size;
 use x86::enums::UnaryOp;
-use x86::forms::put_unary;
 use x86::record::put_instruction;
 use x86::register::Register;
 ghost use mathlib.Core.Path.{_≡_};

@@ -1,4 +1,6 @@
 // Krc's codegen/instructions.rs, casts: `generate_cast`.
+use forms::put_convert;
+use forms::put_extend;
 use instructions::generate_copy;
 use ir::Operand as IrOp;
 use ir::read::operand_at;
@@ -23,8 +25,6 @@ use x86::enums::ExtendOp;
 use x86::enums::Instruction;
 use x86::enums::Operand;
 use x86::enums::Size;
-use x86::forms::put_convert;
-use x86::forms::put_extend;
 use x86::record::put_instruction;
 use x86::register::Register;
 ghost use mathlib.Core.Path.{_≡_};

@@ -1,5 +1,10 @@
 // Krc's codegen/instructions.rs, but for casts and calls: the records of one instruction, counted or written.
 use cells::cell_at;
+use forms::put_ctrl;
+use forms::put_label;
+use forms::put_lea;
+use forms::put_prefix;
+use forms::put_stack;
 use ir::Type;
 use ir::read::type_at;
 use ir::types::Number;
@@ -21,11 +26,6 @@ use x86::enums::Prefix;
 use x86::enums::Size;
 use x86::enums::StackOp;
 use x86::enums::StringOp;
-use x86::forms::put_ctrl;
-use x86::forms::put_label;
-use x86::forms::put_lea;
-use x86::forms::put_prefix;
-use x86::forms::put_stack;
 use x86::record::put_instruction;
 use x86::register::Register;
 ghost use mathlib.Core.Path.{_≡_};

@@ -1,4 +1,7 @@
 // Krc's codegen/arithmetic.rs, binary operations that are no comparisons: their records, counted or written.
+use forms::put_complex_binary;
+use forms::put_shift;
+use forms::put_unary;
 use ir::read::type_at;
 use utils::CountResult;
 use utils::OperandResult;
@@ -16,9 +19,6 @@ use x86::enums::Operand;
 use x86::enums::ShiftOp;
 use x86::enums::Size;
 use x86::enums::UnaryOp;
-use x86::forms::put_complex_binary;
-use x86::forms::put_shift;
-use x86::forms::put_unary;
 use x86::record::put_instruction;
 use x86::register::Register;
 ghost use mathlib.Core.Path.{_≡_};

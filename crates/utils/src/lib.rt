@@ -7,6 +7,8 @@ pub mod kinds;
 pub mod registers;
 pub mod slots;
 
+use forms::put_extend;
+use forms::put_lea;
 use ir::Operand as IrOp;
 use ir::VarId;
 use ir::read::operand_at;
@@ -17,8 +19,6 @@ use x86::enums::ExtendOp;
 use x86::enums::Instruction;
 use x86::enums::Operand;
 use x86::enums::Size;
-use x86::forms::put_extend;
-use x86::forms::put_lea;
 use x86::mem_address::Base;
 use x86::mem_address::MemAddress;
 use x86::record::put_instruction;

@@ -35,7 +35,7 @@ fn put_words(
 }
 
 // Writes the record with a form, an operation, two operands and two sizes from `at`; every other byte stays.
-pub(crate) fn put_form(
+pub fn put_form(
     out: &mut [u8],
     at: usize,
     form: u64,

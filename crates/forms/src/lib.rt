@@ -1,15 +1,15 @@
 // A writer for each form but Binary, with the contract of `put_instruction`. It writes the records of its form itself and leaves every other to `put_other`. Where
 // a maker's call names the form that it makes, the match vanishes and the value becomes eight stores.
-use crate::enums::Instruction;
-use crate::enums::Operand;
-use crate::enums::Size;
-use crate::record::put_form;
-use crate::record::put_other;
+use x86::enums::Instruction;
+use x86::enums::Operand;
+use x86::enums::Size;
+use x86::record::put_form;
+use x86::record::put_other;
 ghost use mathlib.Core.Path.{_≡_};
 ghost use Prim.Native.Nat.{_+_, _≤_};
 ghost use lib.ListN.{length};
 ghost use Rattle.cells.specs.Cells.{write};
 ghost use Rattle.x86.specs.Records.{recordOf, recordBytes};
 
 pub fn put_complex_binary(out: &mut [u8], at: usize, i: Instruction)
     requires { ⌜ at + 64 ≤ length (now out) ⌝ }
