@@ -126,9 +126,11 @@ beyond float i f (x ∷ xs) =
 abbrev pub onStack : List IrOp → List IrOp
 onStack xs = beyond isFloatArgument 0 0 xs
 
--- the least multiple of 16 not below 8k: the area that k arguments on the stack have
-abbrev pub area : ℕ → ℕ
-area k = (8 * k + 15) / 16 * 16
+-- n bytes are the area that k arguments on the stack have below the frame: the least multiple of 16 not below 8k (System V ABI, 3.2.2 and 3.2.3; M-112)
+pub record Area (k n : ℕ) : Type 0 where
+  pub multiple : n % 16 ≡ 0
+  pub enough : 8 * k ≤ n
+  pub least : (m : ℕ) → m % 16 ≡ 0 → 8 * k ≤ m → n ≤ m
 
 -- the bytes of a variable that are passed: its element's, or eight of an array and of what has no width
 abbrev pub passedBytes : IrType → ℕ
@@ -369,7 +371,9 @@ pub record Called (tables : Tables) (F : Function) (c : List Instruction) (R : �
   pub first : R from .pos ≡ place tables F number
   pub passed : K from m → Passed tables (F .vars) args (R from) (R m)
   -- below the frame lies the call's area, and nothing else
-  pub aligned : Aligned (F .vars) (area (length (onStack args))) s₀ (R m)
+  pub below : ℕ
+  pub area : Area (length (onStack args)) below
+  pub aligned : Aligned (F .vars) below s₀ (R m)
 
 -- ---- parameters
 
