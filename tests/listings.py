@@ -1,10 +1,10 @@
 #!/usr/bin/env python3
-"""The stored runs of the listing program: crates/listing (standard input) and crates/listings (a file for each input).
+"""The listing program's inputs and the texts that the specification gives for them. The first of them is the stored run of crates/listing.
 
 usage: listings.py [--check] [PROGRAM WORDS..]
 
-Writes the inputs and the texts that the specification gives for them. With --check it compares the files that are there. A program, as
-`oracle/target/release/oracle answer`, is run on each input and its text compared.
+Writes the stored run. With --check it compares the files that are there. A program, as `target/bin/listing` or `oracle/target/release/oracle answer`, is run
+on every input and its text compared.
 """
 import pathlib, subprocess, sys
 
@@ -64,13 +64,9 @@ def room_for_all():
 
 def files():
     """Path and content of each stored file."""
-    runs = [(name, data, text if text is not None else room_for_all()) for name, data, text in RUNS]
-    yield "crates/listing/stdin", runs[0][1]
-    yield "crates/listing/stdout", runs[0][2].encode()
-    for name, data, _ in runs:
-        yield f"crates/listings/data/{name}", data
-    yield "crates/listings/args", "".join(name + "\n" for name, _, _ in runs).encode()
-    yield "crates/listings/stdout", "".join(name + "\n" + text for name, _, text in runs).encode()
+    _, data, text = RUNS[0]
+    yield "crates/listing/stdin", data
+    yield "crates/listing/stdout", text.encode()
 
 
 def compare(program):
@@ -79,7 +75,7 @@ def compare(program):
         got = subprocess.run(program, input=data, capture_output=True, check=True).stdout.decode()
         if got != want:
             raise SystemExit(f"listings: {name}: {' '.join(program)} writes another text:\n{got[:400]}")
-    print(f"listings: {program[0]} writes the texts of all {len(RUNS)} stored inputs")
+    print(f"listings: {program[0]} writes the texts of all {len(RUNS)} inputs")
 
 
 def main():
@@ -93,7 +89,7 @@ def main():
         elif file.read_bytes() != content:
             raise SystemExit(f"listings: {path} is not as tests/listings.py makes it")
     if check:
-        print(f"listings: the stored inputs and texts of {len(RUNS)} runs are as they should be")
+        print("listings: the stored run of crates/listing is as it should be")
     if words[check:]:
         compare(words[check:])
 

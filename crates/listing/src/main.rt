@@ -1,4 +1,6 @@
 // The listing program: cells from standard input, text to standard output. It only reads and writes; `lister::list` makes the text and is proved to.
+mod lister;
+use crate::lister::list;
 ghost use mathlib.Core.Path.{_≡_};
 ghost use lib.ListN.{length};
 
@@ -14,6 +16,6 @@ fn main() {
     let mut records = io::large_buffer();
     let mut text = io::large_buffer();
     let n = io::read_full(0, &mut input);
-    let end = lister::list(&input[..n], &mut records, &mut text);
+    let end = list(&input[..n], &mut records, &mut text);
     io::write_all(1, &text[..end]);
 }

@@ -1,5 +1,5 @@
 -- Auxiliary: the lines of records as their bytes have them. For the bytes of a list `recordsText` is the text of the list's lines, those of
--- lister's specs/Listing.antt, by the law `lines-read` (lister, proofs/Lines.antt).
+-- listing's specs/Listing.antt, by the law `lines-read` (listing, proofs/Lines.antt).
 use Prim.Native.Nat.{ℕ, zero, suc, _+_, _*_}
 use mathlib.Core.List.{List, [], _∷_, _++_}
 use Rattle.cells.specs.Cells.{cellAt}

@@ -17,7 +17,7 @@ use Rattle.x86.specs.Records.{recordOf}
 use Rattle.codegen.specs.Generation.{accepted}
 use Rattle.text.specs.Text.{digits, signed, numbersLine, okLine, refusedLine, tooLongLine}
 use Rattle.text.specs.Input.{splitOf}
-use Rattle.lister.specs.Listing.{recordLine, answerLines, listingLines, listingText}
+use Rattle.listing.specs.Listing.{recordLine, answerLines, listingLines, listingText}
 
 -- the eight records of 01's listing
 eight : List Instruction

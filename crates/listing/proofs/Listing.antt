@@ -15,9 +15,9 @@ use Rattle.text.specs.declared.input.Parts.{Parts}
 use Rattle.text.specs.Text.{okLine, refusedLine, tooLongLine}
 use Rattle.text.specs.Records.{recordsText}
 use Rattle.text.specs.Input.{splitOf, tablesPart, sheetPart}
-use Rattle.lister.specs.Listing.{recordLine, answerLines, listingLines, listingText, listingRecords}
-use Rattle.lister.proofs.Lines.{lines-read}
-use Rattle.lister.proofs.Widths.{lines-length}
+use Rattle.listing.specs.Listing.{recordLine, answerLines, listingLines, listingText, listingRecords}
+use Rattle.listing.proofs.Lines.{lines-read}
+use Rattle.listing.proofs.Widths.{lines-length}
 
 -- ---- an accepted sheet
 

@@ -14,7 +14,7 @@ use Rattle.x86.specs.Records.{recordOf, recordBytes, listBytes}
 use Rattle.x86.proofs.Decoded.{recordBytes-length}
 use Rattle.text.specs.Text.{numbersLine}
 use Rattle.text.specs.Records.{cellsFrom, cellsLine, recordsText}
-use Rattle.lister.specs.Listing.{numbersOf, recordLine}
+use Rattle.listing.specs.Listing.{numbersOf, recordLine}
 
 -- ---- numbers
 

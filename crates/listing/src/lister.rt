@@ -10,7 +10,7 @@ ghost use mathlib.Core.Path.{_≡_};
 ghost use mathlib.Core.List.{flatten};
 ghost use Rattle.codegen.specs.Generation.{lowered, recordsAfter};
 ghost use Rattle.text.specs.Text.{Put, Counts};
-ghost use Rattle.lister.specs.Listing.{answerLines, listingText, listingRecords};
+ghost use Rattle.listing.specs.Listing.{answerLines, listingText, listingRecords};
 
 // Lowers tables and sheet into the record bytes, and makes the text for the answer; its own answer is the text's length.
 fn list_parts(

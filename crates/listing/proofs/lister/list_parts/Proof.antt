@@ -5,9 +5,9 @@ use borrow.Author.Needs.{needs}
 use Rattle.codegen.specs.Generation.{lowered}
 use Rattle.generation.specs.Answers.{answerSays}
 use Rattle.text.proofs.Pieces.{ok-length, refused-length, whole}
-use Rattle.lister.proofs.Listing.{Lists, accepted-lists, refused-lists, left}
-use Rattle.lister.proofs.list_parts.Statement.{statement}
-use Rattle.lister.proofs.list_parts.Tie as tie
+use Rattle.listing.proofs.Listing.{Lists, accepted-lists, refused-lists, left}
+use Rattle.listing.proofs.lister.list_parts.Statement.{statement}
+use Rattle.listing.proofs.lister.list_parts.Tie as tie
 
 -- where the lowering accepts, it has left a list of n records
 accepts : (c : tie.After-n) → Lists (lowered (c .before .before .before .before .before .before .args .tables .now) (c .before .before .before .before .before .before .args .sheet .now) 65536)

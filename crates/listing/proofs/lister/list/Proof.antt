@@ -7,10 +7,10 @@ use Rattle.text.specs.declared.input.Parts.{Parts}
 use Rattle.text.specs.Input.{splitOf}
 use Rattle.text.proofs.Parts.{parts-fit}
 use Rattle.text.proofs.Pieces.{refused-length, whole}
-use Rattle.lister.specs.Listing.{listingRecords}
-use Rattle.lister.proofs.Listing.{too-long, no-tables, parts-text, parts-records}
-use Rattle.lister.proofs.list.Statement.{statement}
-use Rattle.lister.proofs.list.Tie as tie
+use Rattle.listing.specs.Listing.{listingRecords}
+use Rattle.listing.proofs.Listing.{too-long, no-tables, parts-text, parts-records}
+use Rattle.listing.proofs.lister.list.Statement.{statement}
+use Rattle.listing.proofs.lister.list.Tie as tie
 
 -- the input has parts, which lie in it
 parts : (c : tie.After-n) → splitOf (c .before .before .before .before .args .input .now) ≡ Parts.Tables (c .n .given .0 .0)
