@@ -1,6 +1,5 @@
 // Krc's codegen/arithmetic.rs: `generate_binary`, the choice over the eighteen binary operations, and `generate_unary`.
 use comparisons::comparison;
-use forms::put_unary;
 use ir::Type;
 use ir::UnaryOp as IrUnary;
 use ir::read::type_at;
@@ -9,6 +8,8 @@ use operations::float_operation;
 use operations::multiplication;
 use operations::shift;
 use operations::simple_operation;
+use records::put_instruction;
+use records::put_unary;
 use utils::CountResult;
 use utils::OperandResult;
 use utils::SizeResult;
@@ -24,7 +25,6 @@ use x86::enums::Operand;
 use x86::enums::ShiftOp;
 use x86::enums::Size;
 use x86::enums::UnaryOp;
-use x86::record::put_instruction;
 use x86::register::Register;
 ghost use mathlib.Core.Path.{_≡_};
 ghost use mathlib.Core.Bool.{cond};

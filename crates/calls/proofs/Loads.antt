@@ -15,13 +15,13 @@ use Rattle.codegen.specs.Utils.{loadOperand}
 use Rattle.codegen.specs.Instructions.{floating, wordsTaken, floatsTaken, registerOf, loadArguments}
 use Rattle.codegen.proofs.Results.{never}
 use Rattle.utils.specs.declared.CountResult.{CountResult}
-use Rattle.utils.specs.declared.registers.Taken.{Taken}
+use Rattle.codegen.specs.declared.registers.Taken.{Taken}
 use Rattle.utils.specs.Answers.{counted}
 use Rattle.utils.specs.Makes.{alone, Makes, Ready, then}
-use Rattle.utils.specs.Excess.{taken, isBeyond, behindOne, Within}
+use Rattle.codegen.specs.Excess.{taken, isBeyond, behindOne, Within}
 use Rattle.utils.proofs.Made.{Going, before-none, begins, next-ready, next, stops, finishes}
 use Rattle.utils.proofs.Rows.{always}
-use Rattle.utils.proofs.Beyond.{within-more, stack-more}
+use Rattle.codegen.proofs.Taken.{within-more, stack-more}
 use Rattle.calls.specs.Calls.{loadArgument, countOf}
 use Rattle.calls.proofs.Pushes.{next-left}
 

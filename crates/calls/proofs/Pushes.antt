@@ -16,11 +16,12 @@ use Rattle.codegen.specs.Utils.{loadOperand}
 use Rattle.codegen.specs.Instructions.{floating, excess, pushArguments}
 use Rattle.codegen.proofs.Results.{Yields, yields, refuses}
 use Rattle.utils.specs.declared.CountResult.{CountResult}
-use Rattle.utils.specs.declared.registers.Taken.{Taken}
+use Rattle.codegen.specs.declared.registers.Taken.{Taken}
 use Rattle.utils.specs.Makes.{alone, Makes, then}
-use Rattle.utils.specs.Excess.{taken, behindOne, beyond}
+use Rattle.codegen.specs.Excess.{taken, behindOne, beyond}
 use Rattle.utils.proofs.Rows.{InRow, one-made}
-use Rattle.utils.proofs.Beyond.{Row, stack-more, few-fit, count-turn}
+use Rattle.codegen.proofs.Taken.{stack-more, few-fit, count-turn}
+use Rattle.utils.proofs.Beyond.{Row}
 use Rattle.calls.specs.Calls.{pushOf, pushOne}
 
 pub next-left : (s : List ℕ) (left cell : ℕ) → 0 < left → operandsAt s left cell ≡ operandAt s cell ∷ operandsAt s (left - 1) (cell + 4)

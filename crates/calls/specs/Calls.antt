@@ -16,10 +16,10 @@ use Rattle.x86.specs.Registers.{xmm, RAX, rspPlus}
 use Rattle.codegen.specs.Context.{Context}
 use Rattle.codegen.specs.Utils.{loadOperand}
 use Rattle.codegen.specs.Instructions.{move, floating, excess, registerOf, pushArguments, moveStack, storeResult}
-use Rattle.utils.specs.declared.registers.Taken.{Taken}
+use Rattle.codegen.specs.declared.registers.Taken.{Taken}
 use Rattle.utils.specs.declared.slots.Slot.{Slot}
 use Rattle.utils.specs.Makes.{alone, then}
-use Rattle.utils.specs.Excess.{isBeyond}
+use Rattle.codegen.specs.Excess.{isBeyond}
 
 -- whether an argument is a float constant
 abbrev pub isFloatConstant : IrOp → Bool

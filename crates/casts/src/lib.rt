@@ -1,11 +1,12 @@
 // Krc's codegen/instructions.rs, casts: `generate_cast`.
-use forms::put_convert;
-use forms::put_extend;
 use instructions::generate_copy;
 use ir::Operand as IrOp;
 use ir::read::operand_at;
 use ir::read::type_at;
 use ir::types::Number;
+use records::put_convert;
+use records::put_extend;
+use records::put_instruction;
 use utils::CountResult;
 use utils::OperandResult;
 use utils::SizeResult;
@@ -25,7 +26,6 @@ use x86::enums::ExtendOp;
 use x86::enums::Instruction;
 use x86::enums::Operand;
 use x86::enums::Size;
-use x86::record::put_instruction;
 use x86::register::Register;
 ghost use mathlib.Core.Path.{_≡_};
 ghost use Prim.Native.Nat.{_+_, _*_, _≤_};

@@ -4,3 +4,5 @@ pub mod Shapes
 pub mod Stacked
 pub mod Refusals
 pub mod Codes
+pub mod Ranks
+pub mod Taken

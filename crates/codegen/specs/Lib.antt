@@ -5,3 +5,4 @@ pub mod Arithmetic
 pub mod Frame
 pub mod Generation
 pub mod Bounds
+pub mod Excess

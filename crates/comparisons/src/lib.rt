@@ -1,6 +1,7 @@
 // Krc's codegen/arithmetic.rs, comparisons: the records of a comparison of integers or of floats, counted or written.
-use forms::put_set_cc;
 use ir::read::operand_at;
+use records::put_instruction;
+use records::put_set_cc;
 use utils::CountResult;
 use utils::OperandResult;
 use utils::SizeResult;
@@ -17,7 +18,6 @@ use x86::enums::ConditionCode;
 use x86::enums::Instruction;
 use x86::enums::Operand;
 use x86::enums::Size;
-use x86::record::put_instruction;
 use x86::register::Register;
 ghost use mathlib.Core.Path.{_≡_};
 ghost use mathlib.Core.List.{[], _∷_, _++_};

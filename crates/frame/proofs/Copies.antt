@@ -18,7 +18,8 @@ use Rattle.codegen.specs.Frame.{copyParams, isFloatParam}
 use Rattle.codegen.proofs.Results.{Yields, yields, any, bind}
 use Rattle.utils.specs.Makes.{listed, then}
 use Rattle.utils.proofs.Sources.{rung}
-use Rattle.utils.proofs.Beyond.{Row, few-fit}
+use Rattle.codegen.proofs.Taken.{few-fit}
+use Rattle.utils.proofs.Beyond.{Row}
 use Rattle.frame.specs.Stores.{lookCopied, copiedOf, copyOne}
 use Rattle.frame.proofs.Stores.{next-left}
 

@@ -1,13 +1,14 @@
 // Krc's codegen/instructions.rs, but for casts and calls: the records of one instruction, counted or written.
 use cells::cell_at;
-use forms::put_ctrl;
-use forms::put_label;
-use forms::put_lea;
-use forms::put_prefix;
-use forms::put_stack;
 use ir::Type;
 use ir::read::type_at;
 use ir::types::Number;
+use records::put_ctrl;
+use records::put_instruction;
+use records::put_label;
+use records::put_lea;
+use records::put_prefix;
+use records::put_stack;
 use utils::CountResult;
 use utils::OperandResult;
 use utils::SizeResult;
@@ -26,7 +27,6 @@ use x86::enums::Prefix;
 use x86::enums::Size;
 use x86::enums::StackOp;
 use x86::enums::StringOp;
-use x86::record::put_instruction;
 use x86::register::Register;
 ghost use mathlib.Core.Path.{_≡_};
 ghost use Prim.Native.Nat.{_+_, _≤_};

@@ -28,7 +28,7 @@ use Rattle.utils.specs.Makes.{listed, Makes, Ready}
 use Rattle.utils.proofs.Sources.{rung, rung-of, rung-load, var-given}
 use Rattle.utils.proofs.Made.{has-room, makes, counts}
 use Rattle.operations.specs.declared.Sides.{Sides}
-use Rattle.operations.specs.Loads.{lookOperand, lookLoads, oneLoadOf, twoLoadsOf}
+use Rattle.operations.specs.Loads.{lookSides, oneLoadOf, twoLoadsOf}
 
 -- codegen's `simpleOperation` and `floatOperation`, over the register and the store
 abbrev oneLoad : Context → VarId → IrOp → IrOp → Register → BinOp → BinOp → Result (List Instruction)
@@ -41,38 +41,38 @@ oneLoad ctx dest left right reg op store = do
 
 module _ (ctx : Context) (dest : VarId) (left right : IrOp) where
   one-looked : (reg : Register) (op store : BinOp)
-      → oneLoad ctx dest left right reg op store ≡ listed (lookOperand ctx dest left right) (oneLoadOf reg op store)
+      → oneLoad ctx dest left right reg op store ≡ listed (lookSides false ctx dest left right) (oneLoadOf reg op store)
   one-looked reg op store =
       rung-of (varSize dest) _ _ _ (var-given dest)
       (λ z s. rung-load ctx reg left z _ _ _ s (λ x. rung (convertOperand ctx right) _ _ _ (λ y. rung (convertVar ctx dest) _ _ _ (λ v. refl))))
 
-  pub simple-looked : (op : BinOp) → simpleOperation ctx dest left right op ≡ listed (lookOperand ctx dest left right) (oneLoadOf RAX op BinOp.Mov)
+  pub simple-looked : (op : BinOp) → simpleOperation ctx dest left right op ≡ listed (lookSides false ctx dest left right) (oneLoadOf RAX op BinOp.Mov)
   unfolding simpleOperation
   simple-looked op = one-looked RAX op BinOp.Mov
 
-  pub float-looked : (op : BinOp) → floatOperation ctx dest left right op ≡ listed (lookOperand ctx dest left right) (oneLoadOf (xmm 0) op BinOp.StoreF)
+  pub float-looked : (op : BinOp) → floatOperation ctx dest left right op ≡ listed (lookSides false ctx dest left right) (oneLoadOf (xmm 0) op BinOp.StoreF)
   unfolding floatOperation
   float-looked op = one-looked (xmm 0) op BinOp.StoreF
 
   two-looked : (operation : Size → List Instruction) (result : Register)
-      → twoLoads ctx dest left right operation result ≡ listed (lookLoads ctx dest left right) (twoLoadsOf operation result)
+      → twoLoads ctx dest left right operation result ≡ listed (lookSides true ctx dest left right) (twoLoadsOf operation result)
   unfolding twoLoads
   two-looked operation result =
       rung-of (varSize dest) _ _ _ (var-given dest)
       (λ z s. rung-load ctx RAX left z _ _ _ s (λ x. rung-load ctx RCX right z _ _ _ s (λ y. rung (convertVar ctx dest) _ _ _ (λ v. refl))))
 
   pub division-looked : (result : Register)
-      → division ctx dest left right result ≡ listed (lookLoads ctx dest left right) (twoLoadsOf (dividing (isUnsigned (dest .ty))) result)
+      → division ctx dest left right result ≡ listed (lookSides true ctx dest left right) (twoLoadsOf (dividing (isUnsigned (dest .ty))) result)
   unfolding division
   division-looked result = two-looked _ result
 
   pub multiplication-looked : multiplication ctx dest left right
-      ≡ listed (lookLoads ctx dest left right) (twoLoadsOf (λ size. Instruction.ComplexBinary ComplexBinOp.Imul (Operand.Reg RAX) (Operand.Reg RCX) size ∷ []) RAX)
+      ≡ listed (lookSides true ctx dest left right) (twoLoadsOf (λ size. Instruction.ComplexBinary ComplexBinOp.Imul (Operand.Reg RAX) (Operand.Reg RCX) size ∷ []) RAX)
   unfolding multiplication
   multiplication-looked = two-looked _ RAX
 
   pub shift-looked : (op : ShiftOp) → shift ctx dest left right op
-      ≡ listed (lookLoads ctx dest left right) (twoLoadsOf (λ size. Instruction.Shift op (Operand.Reg RAX) (Operand.Reg RCX) size ∷ []) RAX)
+      ≡ listed (lookSides true ctx dest left right) (twoLoadsOf (λ size. Instruction.Shift op (Operand.Reg RAX) (Operand.Reg RCX) size ∷ []) RAX)
   unfolding shift
   shift-looked op = two-looked _ RAX
 
@@ -87,14 +87,14 @@ five true result t = refl
 five false result t = refl
 
 module _ (ctx : Context) (dest : VarId) (left right : IrOp) (result : Register) where
-  pub division-room : {t : Sides} {writes : Bool} {at n : ℕ} → lookLoads ctx dest left right ≡ ok t → Ready writes (division ctx dest left right result) at n → writes ≡ true → at + 320 ≤ n
+  pub division-room : {t : Sides} {writes : Bool} {at n : ℕ} → lookSides true ctx dest left right ≡ ok t → Ready writes (division ctx dest left right result) at n → writes ≡ true → at + 320 ≤ n
   division-room {t} e g w = omega (arith, five (isUnsigned (dest .ty)) result t, has-room _ (division-looked ctx dest left right result) e g w)
 
-  pub division-makes : {t : Sides} {writes unsigned : Bool} {at : ℕ} {old new : List ℕ} → lookLoads ctx dest left right ≡ ok t → writes ≡ true → unsigned ≡ isUnsigned (dest .ty)
+  pub division-makes : {t : Sides} {writes unsigned : Bool} {at : ℕ} {old new : List ℕ} → lookSides true ctx dest left right ≡ ok t → writes ≡ true → unsigned ≡ isUnsigned (dest .ty)
       → new ≡ write old at (listBytes (twoLoadsOf (dividing unsigned) result t)) → Makes writes (division ctx dest left right result) at old new (CountResult.Records 5)
   division-makes {t} e w u b = rw (five (isUnsigned (dest .ty)) result t) at (makes _ (division-looked ctx dest left right result) e w (rw u at b))
 
-  pub division-counts : {t : Sides} {writes : Bool} {at : ℕ} {old : List ℕ} → lookLoads ctx dest left right ≡ ok t → writes ≡ false
+  pub division-counts : {t : Sides} {writes : Bool} {at : ℕ} {old : List ℕ} → lookSides true ctx dest left right ≡ ok t → writes ≡ false
       → Makes writes (division ctx dest left right result) at old old (CountResult.Records 5)
   division-counts {t} {writes} {at} {old} e w = rw (five (isUnsigned (dest .ty)) result t) at (counts _ (division-looked ctx dest left right result) {at = at} {old = old} e w)
 

@@ -1,4 +1,5 @@
 -- Auxiliary: what an operation's look-ups find, and its records, made of that. codegen's `simpleOperation`, `floatOperation` and `twoLoads` are these two, by `simple-looked`, `float-looked` and `two-looked` (proofs/Looked).
+use mathlib.Core.Bool.{Bool, true, false}
 use mathlib.Core.List.{List, [], _∷_, _++_}
 use Rattle.ir.specs.declared.VarId.{VarId}
 use Rattle.ir.specs.declared.Operand.{Operand as IrOp}
@@ -24,21 +25,16 @@ sidesSay (SidesResult.Refused n) = refused n
 
 -- ---- look-ups, in the Rust's order
 
--- where right is an operand of the operation itself
-abbrev pub lookOperand : Context → VarId → IrOp → IrOp → Result Sides
-lookOperand ctx dest left right = do
-  size ← varSize dest
-  x ← sourceOf ctx left
-  y ← convertOperand ctx right
-  var ← convertVar ctx dest
-  ok (record { left = x; right = y; var = var; size = size })
+-- right, where it is loaded too, or where it is an operand of the operation itself
+abbrev pub rightOf : Bool → Context → IrOp → Result Operand
+rightOf true ctx right = sourceOf ctx right
+rightOf false ctx right = convertOperand ctx right
 
--- where right is loaded too
-abbrev pub lookLoads : Context → VarId → IrOp → IrOp → Result Sides
-lookLoads ctx dest left right = do
+abbrev pub lookSides : Bool → Context → VarId → IrOp → IrOp → Result Sides
+lookSides loaded ctx dest left right = do
   size ← varSize dest
   x ← sourceOf ctx left
-  y ← sourceOf ctx right
+  y ← rightOf loaded ctx right
   var ← convertVar ctx dest
   ok (record { left = x; right = y; var = var; size = size })
 

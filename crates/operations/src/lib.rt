@@ -1,8 +1,9 @@
 // Krc's codegen/arithmetic.rs, binary operations that are no comparisons: their records, counted or written.
-use forms::put_complex_binary;
-use forms::put_shift;
-use forms::put_unary;
 use ir::read::type_at;
+use records::put_complex_binary;
+use records::put_instruction;
+use records::put_shift;
+use records::put_unary;
 use utils::CountResult;
 use utils::OperandResult;
 use utils::SizeResult;
@@ -19,7 +20,6 @@ use x86::enums::Operand;
 use x86::enums::ShiftOp;
 use x86::enums::Size;
 use x86::enums::UnaryOp;
-use x86::record::put_instruction;
 use x86::register::Register;
 ghost use mathlib.Core.Path.{_≡_};
 ghost use Prim.Native.Nat.{_+_, _≤_};
@@ -30,9 +30,9 @@ ghost use Rattle.ir.specs.Function.{varAt, operandAt};
 ghost use Rattle.x86.specs.Registers.{RAX, RCX};
 ghost use Rattle.x86.specs.Records.{recordOf, recordBytes, listBytes};
 ghost use Rattle.codegen.specs.Arithmetic.{simpleOperation, floatOperation, signInto, dividing, division, multiplication, shift};
-ghost use Rattle.utils.specs.Answers.{lent};
+ghost use Rattle.utils.specs.Answers.{operandSays, lent};
 ghost use Rattle.utils.specs.Makes.{Makes, Ready};
-ghost use Rattle.operations.specs.Loads.{sidesSay, lookOperand, lookLoads, oneLoadOf, middleOf, twoLoadsOf};
+ghost use Rattle.operations.specs.Loads.{sidesSay, rightOf, lookSides, oneLoadOf, middleOf, twoLoadsOf};
 
 // Left's source, right, dest's slot and dest's size.
 pub struct Sides {
@@ -53,38 +53,27 @@ pub enum Middle {
     Shift(ShiftOp),
 }
 
-// Where right is an operand of the operation itself.
-fn look_operand(tables: &[u8], offsets: &[u64], s: &[u8], k: usize) -> SidesResult
-    requires { ⌜ k + 13 ≤ cells (now s) ⌝ }
-    ensures { λ r. ⌜ sidesSay r ≡ lookOperand (lent (now (tables .entry)) (now (offsets .entry))) (varAt (now (s .entry)) (k + 2)) (operandAt (now (s .entry)) (k + 5)) (operandAt (now (s .entry)) (k + 9)) ⌝ }
+// What right is found as: where it is loaded too its source, or else an operand of the operation itself.
+fn right_at(tables: &[u8], offsets: &[u64], s: &[u8], k: usize, loaded: bool) -> OperandResult
+    requires { ⌜ k + 4 ≤ cells (now s) ⌝ }
+    ensures { λ r. ⌜ operandSays r ≡ rightOf loaded (lent (now (tables .entry)) (now (offsets .entry))) (operandAt (now (s .entry)) k) ⌝ }
 {
-    let size = match var_size_at(s, k + 2) {
-        SizeResult::Is(size) => size,
-        SizeResult::Refused(n) => return SidesResult::Refused(n),
-    };
-    let x = match source_at(tables, offsets, s, k + 5) {
-        OperandResult::Is(x) => x,
-        OperandResult::Refused(n) => return SidesResult::Refused(n),
-    };
-    let y = match convert_operand_at(tables, offsets, s, k + 9) {
-        OperandResult::Is(y) => y,
-        OperandResult::Refused(n) => return SidesResult::Refused(n),
-    };
-    match convert_var_at(tables, offsets, s, k + 2) {
-        OperandResult::Is(var) => SidesResult::Are(Sides {
-            left: x,
-            right: y,
-            var,
-            size,
-        }),
-        OperandResult::Refused(n) => SidesResult::Refused(n),
+    if loaded {
+        source_at(tables, offsets, s, k)
+    } else {
+        convert_operand_at(tables, offsets, s, k)
     }
 }
 
-// Where right is loaded too.
-fn look_loads(tables: &[u8], offsets: &[u64], s: &[u8], k: usize) -> SidesResult
+fn look_sides(
+    tables: &[u8],
+    offsets: &[u64],
+    s: &[u8],
+    k: usize,
+    loaded: bool,
+) -> SidesResult
     requires { ⌜ k + 13 ≤ cells (now s) ⌝ }
-    ensures { λ r. ⌜ sidesSay r ≡ lookLoads (lent (now (tables .entry)) (now (offsets .entry))) (varAt (now (s .entry)) (k + 2)) (operandAt (now (s .entry)) (k + 5)) (operandAt (now (s .entry)) (k + 9)) ⌝ }
+    ensures { λ r. ⌜ sidesSay r ≡ lookSides loaded (lent (now (tables .entry)) (now (offsets .entry))) (varAt (now (s .entry)) (k + 2)) (operandAt (now (s .entry)) (k + 5)) (operandAt (now (s .entry)) (k + 9)) ⌝ }
 {
     let size = match var_size_at(s, k + 2) {
         SizeResult::Is(size) => size,
@@ -94,7 +83,7 @@ fn look_loads(tables: &[u8], offsets: &[u64], s: &[u8], k: usize) -> SidesResult
         OperandResult::Is(x) => x,
         OperandResult::Refused(n) => return SidesResult::Refused(n),
     };
-    let y = match source_at(tables, offsets, s, k + 9) {
+    let y = match right_at(tables, offsets, s, k + 9, loaded) {
         OperandResult::Is(y) => y,
         OperandResult::Refused(n) => return SidesResult::Refused(n),
     };
@@ -155,7 +144,7 @@ pub fn simple_operation(
     requires { ⌜ Ready write (simpleOperation (lent (now tables) (now offsets)) (varAt (now s) (k + 2)) (operandAt (now s) (k + 5)) (operandAt (now s) (k + 9)) op) at (length (now out)) ⌝ }
     ensures { λ r. ⌜ Makes write (simpleOperation (lent (now (tables .entry)) (now (offsets .entry))) (varAt (now (s .entry)) (k + 2)) (operandAt (now (s .entry)) (k + 5)) (operandAt (now (s .entry)) (k + 9)) op) at (now (out .entry)) (now (out .exit)) r ⌝ }
 {
-    match look_operand(tables, offsets, s, k) {
+    match look_sides(tables, offsets, s, k, false) {
         SidesResult::Are(t) => {
             if write {
                 put_one_load(out, at, t, Register::RAX, op, BinOp::Mov);
@@ -181,7 +170,7 @@ pub fn float_operation(
     requires { ⌜ Ready write (floatOperation (lent (now tables) (now offsets)) (varAt (now s) (k + 2)) (operandAt (now s) (k + 5)) (operandAt (now s) (k + 9)) op) at (length (now out)) ⌝ }
     ensures { λ r. ⌜ Makes write (floatOperation (lent (now (tables .entry)) (now (offsets .entry))) (varAt (now (s .entry)) (k + 2)) (operandAt (now (s .entry)) (k + 5)) (operandAt (now (s .entry)) (k + 9)) op) at (now (out .entry)) (now (out .exit)) r ⌝ }
 {
-    match look_operand(tables, offsets, s, k) {
+    match look_sides(tables, offsets, s, k, false) {
         SidesResult::Are(t) => {
             if write {
                 put_one_load(out, at, t, Register::XMM0, op, BinOp::StoreF);
@@ -279,7 +268,7 @@ pub fn division(
     ensures { λ r. ⌜ Makes write (division (lent (now (tables .entry)) (now (offsets .entry))) (varAt (now (s .entry)) (k + 2)) (operandAt (now (s .entry)) (k + 5)) (operandAt (now (s .entry)) (k + 9)) result) at (now (out .entry)) (now (out .exit)) r ⌝ }
 {
     let ty = type_at(s, k + 3);
-    match look_loads(tables, offsets, s, k) {
+    match look_sides(tables, offsets, s, k, true) {
         SidesResult::Are(t) => {
             if write {
                 put_division(out, at, t, ty.is_unsigned(), result);
@@ -339,7 +328,7 @@ pub fn multiplication(
     requires { ⌜ Ready write (multiplication (lent (now tables) (now offsets)) (varAt (now s) (k + 2)) (operandAt (now s) (k + 5)) (operandAt (now s) (k + 9))) at (length (now out)) ⌝ }
     ensures { λ r. ⌜ Makes write (multiplication (lent (now (tables .entry)) (now (offsets .entry))) (varAt (now (s .entry)) (k + 2)) (operandAt (now (s .entry)) (k + 5)) (operandAt (now (s .entry)) (k + 9))) at (now (out .entry)) (now (out .exit)) r ⌝ }
 {
-    match look_loads(tables, offsets, s, k) {
+    match look_sides(tables, offsets, s, k, true) {
         SidesResult::Are(t) => {
             if write {
                 put_two_loads(out, at, t, Middle::Multiply);
@@ -365,7 +354,7 @@ pub fn shift(
     requires { ⌜ Ready write (shift (lent (now tables) (now offsets)) (varAt (now s) (k + 2)) (operandAt (now s) (k + 5)) (operandAt (now s) (k + 9)) op) at (length (now out)) ⌝ }
     ensures { λ r. ⌜ Makes write (shift (lent (now (tables .entry)) (now (offsets .entry))) (varAt (now (s .entry)) (k + 2)) (operandAt (now (s .entry)) (k + 5)) (operandAt (now (s .entry)) (k + 9)) op) at (now (out .entry)) (now (out .exit)) r ⌝ }
 {
-    match look_loads(tables, offsets, s, k) {
+    match look_sides(tables, offsets, s, k, true) {
         SidesResult::Are(t) => {
             if write {
                 put_two_loads(out, at, t, Middle::Shift(op));

@@ -1,5 +1,4 @@
 pub mod Rest
-pub mod Ranks
 pub mod Sources
 pub mod Made
 pub mod Looked

@@ -2,5 +2,4 @@ pub mod Answers
 pub mod Kinds
 pub mod Sources
 pub mod Slots
-pub mod Excess
 pub mod Makes

@@ -4,16 +4,17 @@
 // A maker of records makes its look-ups in the Rust's order. Then, where it is to write, it puts its records one by one into the lent slice, each as an
 // `Instruction`. It answers how many they are, written or not, or the number of a refusal. So the pass that counts and the pass that writes are one.
 pub mod kinds;
-pub mod registers;
 pub mod slots;
 
-use forms::put_extend;
-use forms::put_lea;
 use ir::Operand as IrOp;
 use ir::VarId;
 use ir::read::operand_at;
 use ir::read::var_at;
 use ir::types::Number;
+use records::put_extend;
+use records::put_instruction;
+use records::put_lea;
+use records::put_other;
 use x86::enums::BinOp;
 use x86::enums::ExtendOp;
 use x86::enums::Instruction;
@@ -21,7 +22,6 @@ use x86::enums::Operand;
 use x86::enums::Size;
 use x86::mem_address::Base;
 use x86::mem_address::MemAddress;
-use x86::record::put_instruction;
 use x86::register::Register;
 ghost use mathlib.Core.Path.{_≡_};
 ghost use mathlib.Core.List.{[], _∷_};
@@ -171,7 +171,7 @@ pub fn convert_operand(tables: &[u8], offsets: &[u64], op: IrOp) -> OperandResul
     }
 }
 
-// What an operand is loaded from: a string's address, or the operand.
+// A string is loaded from its address.
 fn string_source(tables: &[u8], offsets: &[u64], id: u64) -> OperandResult
     ensures { λ r. ⌜ operandSays r ≡ sourceOf (lent (now (tables .entry)) (now (offsets .entry))) (IrOp.DataAddress id) ⌝ }
 {
@@ -184,6 +184,7 @@ fn string_source(tables: &[u8], offsets: &[u64], id: u64) -> OperandResult
     }
 }
 
+// What an operand is loaded from: a string's address, or the operand.
 pub fn source(tables: &[u8], offsets: &[u64], op: IrOp) -> OperandResult
     ensures { λ r. ⌜ operandSays r ≡ sourceOf (lent (now (tables .entry)) (now (offsets .entry))) op ⌝ }
 {
@@ -373,13 +374,13 @@ pub fn put_load(out: &mut [u8], at: usize, reg: Register, src: Operand, size: Si
     );
 }
 
-// It makes a record that asks for no look-up.
+// It makes a record that asks for no look-up. The form is any, so that it calls the writer of all.
 pub fn one_record(out: &mut [u8], at: usize, i: Instruction, write: bool) -> CountResult
     requires { ⌜ Ready write (ok (i ∷ [])) at (length (now out)) ⌝ }
     ensures { λ r. ⌜ Makes write (ok (i ∷ [])) at (now (out .entry)) (now (out .exit)) r ⌝ }
 {
     if write {
-        put_instruction(out, at, i);
+        put_other(out, at, i);
     }
     CountResult::Records(1)
 }

@@ -28,6 +28,7 @@ use Rattle.x86.specs.declared.enums.ConvOp.{ConvOp}
 use Rattle.x86.specs.declared.enums.Instruction.{Instruction}
 use Rattle.x86.specs.Registers.{number}
 use Rattle.x86.specs.Records.{Record, sizeCode, baseTag, tagOf, valueOf, conditionCode, binCode, shiftCode, complexCode, unaryCode, stackCode, ctrlCode, extendCode, convCode, prefixCode, stringCode, recordWith, recordOf, recordBytes, listBytes}
+use Rattle.x86.proofs.Codes.{narrow-record}
 use Rattle.x86.specs.Decode.{lookUp, sizes, conditions, binaries, shifts, complexes, unaries, stacks, extends, conversions, registerAt, operandOf, controlOf, candidate, sameCells, decode, recordAt, decodeList, FitsRegister, FitsOperand, Fits, AllFit}
 
 -- ---- codes
@@ -176,117 +177,6 @@ decode-back i h = rw (candidate-back i h, same-refl (recordOf i))
 
 -- ---- the cells are below 2 ^ 64
 
-size-lt : (o : Size) → sizeCode o < 2 ^ 64
-size-lt Size.NoSize = lit< tt
-size-lt Size.U8 = lit< tt
-size-lt Size.U16 = lit< tt
-size-lt Size.U32 = lit< tt
-size-lt Size.U64 = lit< tt
-
-condition-lt : (o : ConditionCode) → conditionCode o < 2 ^ 64
-condition-lt ConditionCode.E = lit< tt
-condition-lt ConditionCode.NE = lit< tt
-condition-lt ConditionCode.G = lit< tt
-condition-lt ConditionCode.GE = lit< tt
-condition-lt ConditionCode.L = lit< tt
-condition-lt ConditionCode.LE = lit< tt
-condition-lt ConditionCode.A = lit< tt
-condition-lt ConditionCode.AE = lit< tt
-condition-lt ConditionCode.B = lit< tt
-condition-lt ConditionCode.BE = lit< tt
-condition-lt ConditionCode.P = lit< tt
-condition-lt ConditionCode.NP = lit< tt
-
-binary-lt : (o : BinOp) → binCode o < 2 ^ 64
-binary-lt BinOp.Mov = lit< tt
-binary-lt BinOp.Xchg = lit< tt
-binary-lt BinOp.Add = lit< tt
-binary-lt BinOp.Sub = lit< tt
-binary-lt BinOp.Adc = lit< tt
-binary-lt BinOp.Sbb = lit< tt
-binary-lt BinOp.And = lit< tt
-binary-lt BinOp.Or = lit< tt
-binary-lt BinOp.Xor = lit< tt
-binary-lt BinOp.Cmp = lit< tt
-binary-lt BinOp.Test = lit< tt
-binary-lt BinOp.LoadF = lit< tt
-binary-lt BinOp.StoreF = lit< tt
-binary-lt BinOp.AddF = lit< tt
-binary-lt BinOp.SubF = lit< tt
-binary-lt BinOp.MulF = lit< tt
-binary-lt BinOp.DivF = lit< tt
-binary-lt BinOp.ComiF = lit< tt
-binary-lt BinOp.UcomiF = lit< tt
-
-shift-lt : (o : ShiftOp) → shiftCode o < 2 ^ 64
-shift-lt ShiftOp.Shl = lit< tt
-shift-lt ShiftOp.Shr = lit< tt
-shift-lt ShiftOp.Sar = lit< tt
-
-complex-lt : (o : ComplexBinOp) → complexCode o < 2 ^ 64
-complex-lt ComplexBinOp.Div = lit< tt
-complex-lt ComplexBinOp.Imul = lit< tt
-complex-lt ComplexBinOp.Idiv = lit< tt
-
-unary-lt : (o : UnaryOp) → unaryCode o < 2 ^ 64
-unary-lt UnaryOp.Neg = lit< tt
-unary-lt UnaryOp.Not = lit< tt
-unary-lt UnaryOp.Cdq = lit< tt
-unary-lt UnaryOp.Cqo = lit< tt
-
-stack-lt : (o : StackOp) → stackCode o < 2 ^ 64
-stack-lt StackOp.Push = lit< tt
-stack-lt StackOp.Pop = lit< tt
-
-extend-lt : (o : ExtendOp) → extendCode o < 2 ^ 64
-extend-lt ExtendOp.Movsxd = lit< tt
-extend-lt ExtendOp.Movzx = lit< tt
-
-conversion-lt : (o : ConvOp) → convCode o < 2 ^ 64
-conversion-lt ConvOp.Cvtsd2ss = lit< tt
-conversion-lt ConvOp.Cvtsi2sd = lit< tt
-conversion-lt ConvOp.Cvtsi2ss = lit< tt
-conversion-lt ConvOp.Cvtss2sd = lit< tt
-conversion-lt ConvOp.Cvttsd2si = lit< tt
-conversion-lt ConvOp.Cvttss2si = lit< tt
-
-conditional-lt : (c : ConditionCode) → conditionCode c < 16
-conditional-lt ConditionCode.E = lit< tt
-conditional-lt ConditionCode.NE = lit< tt
-conditional-lt ConditionCode.G = lit< tt
-conditional-lt ConditionCode.GE = lit< tt
-conditional-lt ConditionCode.L = lit< tt
-conditional-lt ConditionCode.LE = lit< tt
-conditional-lt ConditionCode.A = lit< tt
-conditional-lt ConditionCode.AE = lit< tt
-conditional-lt ConditionCode.B = lit< tt
-conditional-lt ConditionCode.BE = lit< tt
-conditional-lt ConditionCode.P = lit< tt
-conditional-lt ConditionCode.NP = lit< tt
-
-control-lt : (o : CtrlOp) → ctrlCode o < 2 ^ 64
-control-lt CtrlOp.Jmp = lit< tt
-control-lt CtrlOp.Call = lit< tt
-control-lt CtrlOp.Ret = lit< tt
-control-lt (CtrlOp.JmpCC c) = omega (arith, conditional-lt c)
-
-prefix-lt : (p : Prefix) (o : StringOp) → 16 * prefixCode p + stringCode o < 2 ^ 64
-prefix-lt Prefix.Rep StringOp.Stos = lit< tt
-
-base-lt : (b : Base) → baseTag b < 2 ^ 64
-base-lt Base.Rbp = lit< tt
-base-lt Base.String = lit< tt
-base-lt Base.Float = lit< tt
-base-lt Base.Rsp = lit< tt
-
-tag-lt : (x : Operand) → tagOf x < 2 ^ 64
-tag-lt Operand.NoOperand = lit< tt
-tag-lt (Operand.Reg r) = lit< tt
-tag-lt (Operand.Imm v) = lit< tt
-tag-lt (Operand.Sym k) = lit< tt
-tag-lt (Operand.Label l) = lit< tt
-tag-lt (Operand.MemoryAddress a) = base-lt (a .base)
-
 value-lt : (x : Operand) → FitsOperand x → valueOf x < 2 ^ 64
 value-lt Operand.NoOperand h = lit< tt
 value-lt (Operand.Reg r) h = omega arith
@@ -306,24 +196,35 @@ record Small (r : Record) : Type 0 where
   size : r .size < 2 ^ 64
   srcSize : r .srcSize < 2 ^ 64
 
-small-with : (form operation : ℕ) (d x : Operand) (z y : Size) → form < 2 ^ 64 → operation < 2 ^ 64 → FitsOperand d → FitsOperand x → Small (recordWith form operation d x z y)
-small-with form operation d x z y f o h k =
-    record { form = f; operation = o; dstTag = tag-lt d; dst = value-lt d h; srcTag = tag-lt x; src = value-lt x k; size = size-lt z; srcSize = size-lt y }
+-- the two values
+values : (i : Instruction) → Fits i → (recordOf i .dst < 2 ^ 64) × (recordOf i .src < 2 ^ 64)
+unfolding recordOf
+values (Instruction.Binary op d x z) (h, k) = (value-lt d h, value-lt x k)
+values (Instruction.ComplexBinary op d x z) (h, k) = (value-lt d h, value-lt x k)
+values (Instruction.Convert op r x z) (h, k) = (value-lt (Operand.Reg r) h, value-lt x k)
+values (Instruction.Ctrl op t) h = (value-lt t h, lit< tt)
+values (Instruction.Extend op r x y z) (h, k) = (value-lt (Operand.Reg r) h, value-lt x k)
+values (Instruction.Lea x r z) (h, k) = (value-lt (Operand.Reg r) h, value-lt x k)
+values (Instruction.Label n) h = (value-lt (Operand.Label n) h, lit< tt)
+values (Instruction.Prefix p op z) h = (lit< tt, lit< tt)
+values (Instruction.SetCC op d) h = (value-lt d h, lit< tt)
+values (Instruction.Shift op d x z) (h, k) = (value-lt d h, value-lt x k)
+values (Instruction.Stack op x z) h = (value-lt x h, lit< tt)
+values (Instruction.Unary op d z) h = (value-lt d h, lit< tt)
 
 small : (i : Instruction) → Fits i → Small (recordOf i)
-unfolding recordOf
-small (Instruction.Binary op d x z) (h, k) = small-with 0 (binCode op) d x z Size.NoSize (lit< tt) (binary-lt op) h k
-small (Instruction.ComplexBinary op d x z) (h, k) = small-with 4 (complexCode op) d x z Size.NoSize (lit< tt) (complex-lt op) h k
-small (Instruction.Convert op r x z) (h, k) = small-with 5 (convCode op) (Operand.Reg r) x z Size.NoSize (lit< tt) (conversion-lt op) h k
-small (Instruction.Ctrl op t) h = small-with 6 (ctrlCode op) t Operand.NoOperand Size.NoSize Size.NoSize (lit< tt) (control-lt op) h tt
-small (Instruction.Extend op r x y z) (h, k) = small-with 7 (extendCode op) (Operand.Reg r) x z y (lit< tt) (extend-lt op) h k
-small (Instruction.Lea x r z) (h, k) = small-with 8 0 (Operand.Reg r) x z Size.NoSize (lit< tt) (lit< tt) h k
-small (Instruction.Label n) h = small-with 9 0 (Operand.Label n) Operand.NoOperand Size.NoSize Size.NoSize (lit< tt) (lit< tt) h tt
-small (Instruction.Prefix p op z) h = small-with 11 _ Operand.NoOperand Operand.NoOperand z Size.NoSize (lit< tt) (prefix-lt p op) tt tt
-small (Instruction.SetCC op d) h = small-with 12 (conditionCode op) d Operand.NoOperand Size.NoSize Size.NoSize (lit< tt) (condition-lt op) h tt
-small (Instruction.Shift op d x z) (h, k) = small-with 13 (shiftCode op) d x z Size.NoSize (lit< tt) (shift-lt op) h k
-small (Instruction.Stack op x z) h = small-with 14 (stackCode op) x Operand.NoOperand z Size.NoSize (lit< tt) (stack-lt op) h tt
-small (Instruction.Unary op d z) h = small-with 17 (unaryCode op) d Operand.NoOperand z Size.NoSize (lit< tt) (unary-lt op) h tt
+small i h =
+    let n = narrow-record i in
+    record {
+      form = omega (arith, n .form);
+      operation = omega (arith, n .operation);
+      dstTag = omega (arith, n .dstTag);
+      dst = values i h .0;
+      srcTag = omega (arith, n .srcTag);
+      src = values i h .1;
+      size = omega (arith, n .size);
+      srcSize = omega (arith, n .srcSize);
+    }
 
 -- ---- bytes
 

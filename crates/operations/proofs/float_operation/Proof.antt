@@ -6,16 +6,16 @@ use Rattle.operations.proofs.float_operation.Statement.{statement}
 use Rattle.operations.proofs.float_operation.Tie as tie
 
 put-one-load-requires : tie.Need-put-one-load-requires
-put-one-load-requires c κs = has-room _ (float-looked _ _ _ _ _) (told sidesSay (c .before .before .before .before .before .look-operand .ensures) (c .before .before .before .t .given .1)) (c .before .before .before .before .before .before .before .before .before .before .pre .1) (c .before .if1 .taken)
+put-one-load-requires c κs = has-room _ (float-looked _ _ _ _ _) (told sidesSay (c .before .before .before .before .before .look-sides .ensures) (c .before .before .before .t .given .1)) (c .before .before .before .before .before .before .before .before .before .before .pre .1) (c .before .if1 .taken)
 
 returns : tie.Need-returns
-returns c = makes _ (float-looked _ _ _ _ _) (told sidesSay (c .before .before .before .before .before .before .before .before .look-operand .ensures) (c .before .before .before .before .before .before .t .given .1)) (c .before .before .before .before .if1 .taken) (c .before .before .put-one-load .ensures)
+returns c = makes _ (float-looked _ _ _ _ _) (told sidesSay (c .before .before .before .before .before .before .before .before .look-sides .ensures) (c .before .before .before .before .before .before .t .given .1)) (c .before .before .before .before .if1 .taken) (c .before .before .put-one-load .ensures)
 
 returns-2 : tie.Need-returns-2
-returns-2 c = counts _ (float-looked _ _ _ _ _) (told sidesSay (c .before .before .before .before .look-operand .ensures) (c .before .before .t .given .1)) (c .if1 .left)
+returns-2 c = counts _ (float-looked _ _ _ _ _) (told sidesSay (c .before .before .before .before .look-sides .ensures) (c .before .before .t .given .1)) (c .if1 .left)
 
 returns-3 : tie.Need-returns-3
-returns-3 c = refuses _ (float-looked _ _ _ _ _) (told sidesSay (c .before .before .before .look-operand .ensures) (c .before .n .given .1))
+returns-3 c = refuses _ (float-looked _ _ _ _ _) (told sidesSay (c .before .before .before .look-sides .ensures) (c .before .n .given .1))
 
 pub float-operation-spec : {M : Type 1} → statement M
 float-operation-spec =

@@ -4,14 +4,14 @@ use borrow.Author.Needs.{needs}
 use Rattle.utils.proofs.one_record.Statement.{statement}
 use Rattle.utils.proofs.one_record.Tie as tie
 
-put-instruction-requires : tie.Need-put-instruction-requires
-put-instruction-requires c κs = c .before .before .before .pre .room (c .before .if1 .taken)
+put-other-requires : tie.Need-put-other-requires
+put-other-requires c κs = c .before .before .before .pre .room (c .before .if1 .taken)
 
 returns : tie.Need-returns
 returns c =
     record {
       says = refl;
-      bytes = rw (c .before .before .before .before .if1 .taken) (puts (first (c .before .before .put-instruction .ensures) done) (c .before .before .before .before .before .before .pre .room (c .before .before .before .before .if1 .taken)));
+      bytes = rw (c .before .before .before .before .if1 .taken) (puts (first (c .before .before .put-other .ensures) done) (c .before .before .before .before .before .before .pre .room (c .before .before .before .before .if1 .taken)));
     }
 
 returns-2 : tie.Need-returns-2
@@ -21,4 +21,4 @@ pub one-record-spec : {M : Type 1} → statement M
 one-record-spec =
     tie.close
     (tie.spec
-    put-instruction-requires (λ c. search needs) returns returns-2)
+    put-other-requires (λ c. search needs) returns returns-2)

@@ -1,0 +1,109 @@
+// `PARAM_REGS` and `PARAM_FREGS` of Krc's codegen/instructions.rs are the registers of parameters and arguments. `Taken` says which of these are in excess of
+// the registers (M-112).
+use x86::register::Register;
+ghost use mathlib.Core.Path.{_≡_};
+ghost use Prim.Native.Nat.{_≤_};
+ghost use lib.ListN.{length, getD};
+ghost use Rattle.x86.specs.Registers.{RAX};
+ghost use Rattle.codegen.specs.Frame.{registersOf};
+ghost use Rattle.codegen.specs.Instructions.{registerOf};
+ghost use Rattle.codegen.specs.Excess.{isBeyond, behindOne};
+
+// The register of the parameter of rank `k` among those that are floats, or among those that are not.
+pub fn param_register(float: bool, k: u64) -> Register
+    ensures { λ r. ⌜ r ≡ getD (registersOf float) k RAX ⌝ }
+{
+    if float {
+        match k {
+            0 => Register::XMM0,
+            1 => Register::XMM1,
+            2 => Register::XMM2,
+            3 => Register::XMM3,
+            4 => Register::XMM4,
+            5 => Register::XMM5,
+            6 => Register::XMM6,
+            7 => Register::XMM7,
+            _ => Register::RAX,
+        }
+    } else {
+        match k {
+            0 => Register::RDI,
+            1 => Register::RSI,
+            2 => Register::RDX,
+            3 => Register::RCX,
+            4 => Register::R8,
+            5 => Register::R9,
+            _ => Register::RAX,
+        }
+    }
+}
+
+// How many registers there are for them.
+pub fn registers(float: bool) -> u64
+    ensures { λ r. ⌜ r ≡ length (registersOf float) ⌝ }
+{
+    if float { 8 } else { 6 }
+}
+
+// So many general registers, XMM registers and eightbytes of the stack are taken by the arguments or parameters before one.
+pub struct Taken {
+    pub words: u64,
+    pub floats: u64,
+    pub stack: u64,
+}
+
+impl Taken {
+    pub const NONE: Taken = Taken {
+        words: 0,
+        floats: 0,
+        stack: 0,
+    };
+
+    // It says whether that one finds the registers of its kind taken.
+    pub fn is_beyond(self, float: bool) -> bool
+        ensures { λ r. ⌜ r ≡ isBeyond float self ⌝ }
+    {
+        if float {
+            8 <= self.floats
+        } else {
+            6 <= self.words
+        }
+    }
+
+    // This is the register that it finds.
+    pub fn register(self, float: bool) -> Register
+        ensures { λ r. ⌜ r ≡ registerOf float (self .words) (self .floats) ⌝ }
+    {
+        if float {
+            param_register(true, self.floats)
+        } else {
+            param_register(false, self.words)
+        }
+    }
+
+    // It adds that one, which takes a register or an eightbyte of the stack.
+    pub fn with(self, float: bool) -> Taken
+        requires { ⌜ self .stack ≤ 256 ⌝ }
+        ensures { λ r. ⌜ r ≡ behindOne float self ⌝ }
+    {
+        if self.is_beyond(float) {
+            return Taken {
+                words: self.words,
+                floats: self.floats,
+                stack: self.stack + 1,
+            };
+        }
+        if float {
+            return Taken {
+                words: self.words,
+                floats: self.floats + 1,
+                stack: self.stack,
+            };
+        }
+        Taken {
+            words: self.words + 1,
+            floats: self.floats,
+            stack: self.stack,
+        }
+    }
+}
