@@ -21,12 +21,13 @@ use Rattle.codegen.specs.Utils.{sizeFrom, varSize, convertVar, convertOperand, 
 use Rattle.codegen.specs.Instructions as spec
 use Rattle.codegen.specs.Instructions.{source, operandKind, generateCopy, castOperand, widened, converted, extended, castBetween, isUnsignedShort, zeroExtended, isCopy, generateCast}
 use Rattle.utils.specs.declared.CountResult.{CountResult}
+use Rattle.utils.specs.Slots.{lookSlot}
 use Rattle.utils.specs.Sources.{sourceOf, loadOf}
 use Rattle.utils.specs.Makes.{listed, Makes}
 use Rattle.utils.proofs.Sources.{rung, sized}
 use Rattle.casts.specs.declared.Source.{Source}
-use Rattle.casts.specs.declared.Stored.{Stored}
-use Rattle.casts.specs.Casts.{sourceFrom, constantSize, movzx, movsxd, sourceRecords, sourceSays, castSource, lookStore, storeOp, convertedOf, isExtended, extendedOf, zeroExtendedOf, integerToFloat, floatToInteger}
+use Rattle.utils.specs.declared.slots.Slot.{Slot}
+use Rattle.casts.specs.Casts.{sourceFrom, constantSize, movzx, movsxd, sourceRecords, sourceSays, castSource, storeOp, convertedOf, isExtended, extendedOf, zeroExtendedOf, integerToFloat, floatToInteger}
 
 -- ---- the source
 
@@ -89,18 +90,18 @@ module _ (s : Source) where
 -- ---- codegen's lists by their look-ups
 
 pub converted-looked : (ctx : Context) (dest : VarId) (s : spec.Source) (op : ConvOp) (reg : Register) (by : Size)
-    → converted ctx dest s op reg by ≡ listed (lookStore ctx dest) (convertedOf s op reg by (storeOp (isFloat (dest .ty))))
+    → converted ctx dest s op reg by ≡ listed (lookSlot ctx dest) (convertedOf s op reg by (storeOp (isFloat (dest .ty))))
 converted-looked ctx dest s op reg by = rung (convertVar ctx dest) _ _ _ (λ v. rung (varSize dest) _ _ _ (λ z. refl))
 
 cond-not : {A : Type 0} (b : Bool) (x y : A) → cond b x y ≡ cond (not b) y x
 cond-not true x y = refl
 cond-not false x y = refl
 
-pub extended-looked : (ctx : Context) (dest : VarId) (s : spec.Source) → extended ctx dest s ≡ listed (lookStore ctx dest) (extendedOf s)
+pub extended-looked : (ctx : Context) (dest : VarId) (s : spec.Source) → extended ctx dest s ≡ listed (lookSlot ctx dest) (extendedOf s)
 extended-looked ctx dest s = rung (convertVar ctx dest) _ _ _ (λ v. rung (varSize dest) _ _ _ (λ z. ap (λ (w : List Instruction). ok (s .records ++ w ++ spec.move v (Operand.Reg RAX) z ∷ [])) (cond-not (eqb (s .size) 8) [] (movsxd (s .operand) ∷ []))))
 
 module _ (ctx : Context) (dest : VarId) (src : IrOp) where
-  pub zero-extended-looked : {x : Operand} → sourceOf ctx src ≡ ok x → zeroExtended ctx dest src ≡ listed (lookStore ctx dest) (zeroExtendedOf x)
+  pub zero-extended-looked : {x : Operand} → sourceOf ctx src ≡ ok x → zeroExtended ctx dest src ≡ listed (lookSlot ctx dest) (zeroExtendedOf x)
   unfolding zeroExtended
   zero-extended-looked e = rw (sized ctx RAX src Size.U32 (λ z. refl), e) (rung (convertVar ctx dest) _ _ _ (λ v. rung (varSize dest) _ _ _ (λ z. refl)))
 
@@ -118,10 +119,10 @@ extended-length is true i j = length-append (is ++ i ∷ []) (j ∷ []) ∙ omeg
 extended-length is false i j = length-append (is ++ []) (j ∷ []) ∙ omega (arith, length-append is [])
 
 -- what is behind the source's records
-pub widened-behind : (s : spec.Source) (t : Stored) → isExtended s ≡ true → s .records ++ (movsxd (s .operand) ∷ spec.move (t .var) (Operand.Reg RAX) (t .size) ∷ []) ≡ extendedOf s t
+pub widened-behind : (s : spec.Source) (t : Slot) → isExtended s ≡ true → s .records ++ (movsxd (s .operand) ∷ spec.move (t .var) (Operand.Reg RAX) (t .size) ∷ []) ≡ extendedOf s t
 widened-behind s t e = rw e (sym (append-assoc (s .records) (movsxd (s .operand) ∷ []) _))
 
-pub moved-behind : (s : spec.Source) (t : Stored) → isExtended s ≡ false → s .records ++ (spec.move (t .var) (Operand.Reg RAX) (t .size) ∷ []) ≡ extendedOf s t
+pub moved-behind : (s : spec.Source) (t : Slot) → isExtended s ≡ false → s .records ++ (spec.move (t .var) (Operand.Reg RAX) (t .size) ∷ []) ≡ extendedOf s t
 moved-behind s t e = rw e (ap (λ (x : List Instruction). x ++ spec.move (t .var) (Operand.Reg RAX) (t .size) ∷ []) (sym (append-nil (s .records))))
 
 -- a number of records under another name

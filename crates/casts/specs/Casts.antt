@@ -3,7 +3,6 @@ use Prim.Native.Nat.{ℕ}
 use mathlib.Core.Bool.{Bool, true, false, cond, not, _&&_}
 use mathlib.Core.List.{List, [], _∷_, _++_}
 use lib.Dec.{eqb}
-use Rattle.ir.specs.declared.VarId.{VarId}
 use Rattle.ir.specs.declared.Operand.{Operand as IrOp}
 use Rattle.ir.specs.Types.{Result, ok, refused, _>>=_}
 use Rattle.x86.specs.declared.register.Register.{Register}
@@ -15,14 +14,12 @@ use Rattle.x86.specs.declared.enums.ExtendOp.{ExtendOp}
 use Rattle.x86.specs.declared.enums.Instruction.{Instruction}
 use Rattle.x86.specs.Registers.{RAX}
 use Rattle.codegen.specs.Context.{Context}
-use Rattle.codegen.specs.Utils.{varSize, convertVar}
 use Rattle.codegen.specs.Instructions as spec
 use Rattle.codegen.specs.Instructions.{source, move, castOperand, widened}
+use Rattle.utils.specs.declared.slots.Slot.{Slot}
 use Rattle.utils.specs.Sources.{loadOf}
 use Rattle.casts.specs.declared.Source.{Source}
 use Rattle.casts.specs.declared.SourceResult.{SourceResult}
-use Rattle.casts.specs.declared.Stored.{Stored}
-use Rattle.casts.specs.declared.StoredResult.{StoredResult}
 
 -- ---- the source
 
@@ -75,22 +72,12 @@ castSource ctx op k = castOperand ctx op (k .size) >>= λ s. ok (widened (k .flo
 
 -- ---- dest
 
-abbrev pub storedSays : StoredResult → Result Stored
-storedSays (StoredResult.Is t) = ok t
-storedSays (StoredResult.Refused n) = refused n
-
-abbrev pub lookStore : Context → VarId → Result Stored
-lookStore ctx dest = do
-  var ← convertVar ctx dest
-  size ← varSize dest
-  ok (record { var = var; size = size })
-
 abbrev pub storeOp : Bool → BinOp
 storeOp float = cond float BinOp.StoreF BinOp.Mov
 
 -- ---- records
 
-abbrev pub convertedOf : spec.Source → ConvOp → Register → Size → BinOp → Stored → List Instruction
+abbrev pub convertedOf : spec.Source → ConvOp → Register → Size → BinOp → Slot → List Instruction
 convertedOf s op reg by store t = s .records ++ Instruction.Convert op reg (s .operand) by ∷ Instruction.Binary store (t .var) (Operand.Reg reg) (t .size) ∷ []
 
 abbrev pub movsxd : Operand → Instruction
@@ -100,11 +87,11 @@ movsxd x = Instruction.Extend ExtendOp.Movsxd RAX x Size.U32 Size.U64
 abbrev pub isExtended : spec.Source → Bool
 isExtended s = not (eqb (s .size) 8)
 
-abbrev pub extendedOf : spec.Source → Stored → List Instruction
+abbrev pub extendedOf : spec.Source → Slot → List Instruction
 extendedOf s t = s .records ++ cond (isExtended s) (movsxd (s .operand) ∷ []) [] ++ move (t .var) (Operand.Reg RAX) (t .size) ∷ []
 
 -- an unsigned short's cast to eight bytes, from where it is loaded
-abbrev pub zeroExtendedOf : Operand → Stored → List Instruction
+abbrev pub zeroExtendedOf : Operand → Slot → List Instruction
 zeroExtendedOf src t = loadOf RAX src Size.U32 ∷ move (t .var) (Operand.Reg RAX) (t .size) ∷ []
 
 -- ---- conversions, by a float's size in bytes

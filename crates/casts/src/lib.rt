@@ -1,8 +1,10 @@
 // Krc's codegen/instructions.rs, casts: `generate_cast`.
+use codegen::shorts::is_unsigned_short;
 use instructions::generate_copy;
 use ir::Operand as IrOp;
 use ir::read::operand_at;
 use ir::read::type_at;
+use ir::read::var_at;
 use ir::types::Number;
 use records::put_convert;
 use records::put_extend;
@@ -11,13 +13,15 @@ use utils::CountResult;
 use utils::OperandResult;
 use utils::SizeResult;
 use utils::convert_operand_at;
-use utils::convert_var_at;
 use utils::kinds::Kind;
 use utils::kinds::KindResult;
 use utils::kinds::operand_kind;
 use utils::mov;
 use utils::put_load;
 use utils::size_from;
+use utils::slots::Slot;
+use utils::slots::SlotResult;
+use utils::slots::look_slot;
 use utils::source_at;
 use utils::var_size_at;
 use x86::enums::BinOp;
@@ -39,7 +43,8 @@ ghost use Rattle.codegen.specs.Instructions.{operandKind, converted, extended, 
 ghost use Rattle.utils.specs.Answers.{lent};
 ghost use Rattle.utils.specs.Kinds.{kindSays};
 ghost use Rattle.utils.specs.Makes.{Makes, Ready};
-ghost use Rattle.casts.specs.Casts.{isConstant, isByte, constantSize, movzx, sourceRecords, sourceOperand, sourceSize, sourceSays, sourceResultSays, castSource, storedSays, lookStore, storeOp, convertedOf, isExtended, extendedOf, floatToFloat, integerToFloat, floatToInteger, zeroExtendedOf};
+ghost use Rattle.utils.specs.Slots.{slotSays, lookSlot};
+ghost use Rattle.casts.specs.Casts.{isConstant, isByte, constantSize, movzx, sourceRecords, sourceOperand, sourceSize, sourceSays, sourceResultSays, castSource, storeOp, convertedOf, isExtended, extendedOf, floatToFloat, integerToFloat, floatToInteger, zeroExtendedOf};
 
 // What is cast: its operand; whether it is a constant, which goes through RAX; whether it is one byte that is no float, which is widened there; and its
 // size in bytes before that.
@@ -52,17 +57,6 @@ pub struct Source {
 
 pub enum SourceResult {
     Is(Source),
-    Refused(u64),
-}
-
-// Dest's slot and size.
-pub struct Stored {
-    pub var: Operand,
-    pub size: Size,
-}
-
-pub enum StoredResult {
-    Is(Stored),
     Refused(u64),
 }
 
@@ -176,18 +170,12 @@ fn put_source(out: &mut [u8], at: usize, s: Source)
     }
 }
 
-fn look_store(tables: &[u8], offsets: &[u64], s: &[u8], k: usize) -> StoredResult
+// Dest's slot, then its size.
+fn look_store(tables: &[u8], offsets: &[u64], s: &[u8], k: usize) -> SlotResult
     requires { ⌜ k + 13 ≤ cells (now s) ⌝ }
-    ensures { λ r. ⌜ storedSays r ≡ lookStore (lent (now (tables .entry)) (now (offsets .entry))) (varAt (now (s .entry)) (k + 2)) ⌝ }
+    ensures { λ r. ⌜ slotSays r ≡ lookSlot (lent (now (tables .entry)) (now (offsets .entry))) (varAt (now (s .entry)) (k + 2)) ⌝ }
 {
-    let var = match convert_var_at(tables, offsets, s, k + 2) {
-        OperandResult::Is(var) => var,
-        OperandResult::Refused(n) => return StoredResult::Refused(n),
-    };
-    match var_size_at(s, k + 2) {
-        SizeResult::Is(size) => StoredResult::Is(Stored { var, size }),
-        SizeResult::Refused(n) => StoredResult::Refused(n),
-    }
+    look_slot(tables, offsets, var_at(s, k + 2))
 }
 
 fn store_op(float: bool) -> BinOp
@@ -200,7 +188,7 @@ fn put_converted(
     out: &mut [u8],
     at: usize,
     s: Source,
-    t: Stored,
+    t: Slot,
     op: ConvOp,
     reg: Register,
     by: Size,
@@ -255,14 +243,14 @@ fn converted(
 {
     let ty = type_at(s, k + 3);
     match look_store(tables, offsets, s, k) {
-        StoredResult::Is(t) => {
+        SlotResult::Is(t) => {
             let count = source_count(from) + 2;
             if write {
                 put_converted(out, at, from, t, op, reg, by, store_op(ty.is_float()));
             }
             CountResult::Records(count)
         }
-        StoredResult::Refused(n) => CountResult::Refused(n),
+        SlotResult::Refused(n) => CountResult::Refused(n),
     }
 }
 
@@ -273,7 +261,7 @@ fn is_extended(s: Source) -> bool
     source_size(s) != 8
 }
 
-fn put_extended(out: &mut [u8], at: usize, s: Source, t: Stored)
+fn put_extended(out: &mut [u8], at: usize, s: Source, t: Slot)
     requires { ⌜ at + 64 * length (extendedOf (sourceSays s) t) ≤ length (now out) ⌝ }
     ensures { λ _. ⌜ now (out .exit) ≡ write (now (out .entry)) at (listBytes (extendedOf (sourceSays s) t)) ⌝ }
 {
@@ -316,14 +304,14 @@ fn extended(
     ensures { λ r. ⌜ Makes write (extended (lent (now (tables .entry)) (now (offsets .entry))) (varAt (now (s .entry)) (k + 2)) (sourceSays from)) at (now (out .entry)) (now (out .exit)) r ⌝ }
 {
     match look_store(tables, offsets, s, k) {
-        StoredResult::Is(t) => {
+        SlotResult::Is(t) => {
             let count = source_count(from) + 1 + one_if(is_extended(from));
             if write {
                 put_extended(out, at, from, t);
             }
             CountResult::Records(count)
         }
-        StoredResult::Refused(n) => CountResult::Refused(n),
+        SlotResult::Refused(n) => CountResult::Refused(n),
     }
 }
 
@@ -437,24 +425,6 @@ fn cast_between(
     extended(tables, offsets, s, k, from, out, at, write)
 }
 
-// An unsigned short, variable or constant; an array is none.
-fn is_unsigned_short(op: IrOp) -> bool
-    ensures { λ r. ⌜ r ≡ isUnsignedShort op ⌝ }
-{
-    match op {
-        IrOp::Var(v) => {
-            let ty = v.ty;
-            if ty.is_scalar() { ty.code == 4 } else { false }
-        }
-        IrOp::Int(_, short, unsigned) => { if short { unsigned } else { false } }
-        IrOp::Float(_) => false,
-        IrOp::Bool(_) => false,
-        IrOp::Address(_) => false,
-        IrOp::DataAddress(_) => false,
-        IrOp::Null => false,
-    }
-}
-
 // Whether a cast that is no copy widens with zeros.
 fn is_zero_extended(op: IrOp, to: bool) -> bool
     ensures { λ r. ⌜ r ≡ (not to && isUnsignedShort op) ⌝ }
@@ -462,7 +432,7 @@ fn is_zero_extended(op: IrOp, to: bool) -> bool
     if to { false } else { is_unsigned_short(op) }
 }
 
-fn put_zero_extended(out: &mut [u8], at: usize, src: Operand, t: Stored)
+fn put_zero_extended(out: &mut [u8], at: usize, src: Operand, t: Slot)
     requires { ⌜ at + 64 * length (zeroExtendedOf src t) ≤ length (now out) ⌝ }
     ensures { λ _. ⌜ now (out .exit) ≡ write (now (out .entry)) at (listBytes (zeroExtendedOf src t)) ⌝ }
 {
@@ -491,13 +461,13 @@ fn zero_extended(
         OperandResult::Refused(n) => return CountResult::Refused(n),
     };
     match look_store(tables, offsets, s, k) {
-        StoredResult::Is(t) => {
+        SlotResult::Is(t) => {
             if write {
                 put_zero_extended(out, at, src, t);
             }
             CountResult::Records(2)
         }
-        StoredResult::Refused(n) => CountResult::Refused(n),
+        SlotResult::Refused(n) => CountResult::Refused(n),
     }
 }
 

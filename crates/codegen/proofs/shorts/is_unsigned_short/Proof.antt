@@ -1,6 +1,6 @@
 use borrow.Author.Needs.{needs}
-use Rattle.casts.proofs.is_unsigned_short.Statement.{statement}
-use Rattle.casts.proofs.is_unsigned_short.Tie as tie
+use Rattle.codegen.proofs.shorts.is_unsigned_short.Statement.{statement}
+use Rattle.codegen.proofs.shorts.is_unsigned_short.Tie as tie
 
 returns : tie.Need-returns
 returns c = simp (c .before .before .before .before .before .op .given .1, ← c .before .before .is-scalar .ensures, c .before .if1 .taken)
