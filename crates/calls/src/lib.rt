@@ -1,4 +1,5 @@
 // Krc's codegen/instructions.rs, calls: `generate_call`, with `float_parameter` and `normal_param`.
+use codegen::registers::Taken;
 use ir::Dest;
 use ir::Operand as IrOp;
 use ir::VarId;
@@ -8,7 +9,6 @@ use utils::CountResult;
 use utils::load_operand;
 use utils::mov;
 use utils::one_record;
-use codegen::registers::Taken;
 use utils::slots::Slot;
 use utils::slots::SlotResult;
 use utils::slots::look_slot;

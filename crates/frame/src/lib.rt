@@ -1,5 +1,8 @@
 // Krc's codegen/generation.rs, the frame: `var_offsets` and `func_prologue`.
 use cells::Cursor;
+use codegen::registers::Taken;
+use codegen::registers::param_register;
+use codegen::registers::registers;
 use ir::Type;
 use ir::VarId;
 use ir::read::type_at;
@@ -16,9 +19,6 @@ use utils::SizeResult;
 use utils::convert_var;
 use utils::mov;
 use utils::put_load;
-use codegen::registers::Taken;
-use codegen::registers::param_register;
-use codegen::registers::registers;
 use utils::slots::Slot;
 use utils::slots::SlotResult;
 use utils::slots::look_slot;

@@ -1,5 +1,6 @@
 // The listing program: cells from standard input, text to standard output. It only reads and writes; `lister::list` makes the text and is proved to.
 mod lister;
+
 use crate::lister::list;
 ghost use mathlib.Core.Path.{_≡_};
 ghost use lib.ListN.{length};

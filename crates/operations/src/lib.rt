@@ -65,13 +65,7 @@ fn right_at(tables: &[u8], offsets: &[u64], s: &[u8], k: usize, loaded: bool) ->
     }
 }
 
-fn look_sides(
-    tables: &[u8],
-    offsets: &[u64],
-    s: &[u8],
-    k: usize,
-    loaded: bool,
-) -> SidesResult
+fn look_sides(tables: &[u8], offsets: &[u64], s: &[u8], k: usize, loaded: bool) -> SidesResult
     requires { ⌜ k + 13 ≤ cells (now s) ⌝ }
     ensures { λ r. ⌜ sidesSay r ≡ lookSides loaded (lent (now (tables .entry)) (now (offsets .entry))) (varAt (now (s .entry)) (k + 2)) (operandAt (now (s .entry)) (k + 5)) (operandAt (now (s .entry)) (k + 9)) ⌝ }
 {
