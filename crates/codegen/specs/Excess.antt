@@ -1,4 +1,5 @@
--- Auxiliary: arguments or parameters in order, and what they take; codegen's `excess` is those that are beyond the registers, by `excess-turn` (proofs/Taken).
+-- Auxiliary: arguments or parameters in order, and what they take. `beyond` is codegen's `excess` by its definition; that `behindOne` is its step is `count-turn`
+-- (proofs/Taken).
 use Prim.Native.Nat.{ℕ, suc, _≤_}
 use mathlib.Core.Bool.{Bool, cond}
 use mathlib.Core.List.{List, []}
