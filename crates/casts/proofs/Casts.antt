@@ -27,7 +27,8 @@ use Rattle.utils.specs.Makes.{listed, Makes}
 use Rattle.utils.proofs.Sources.{rung, sized}
 use Rattle.casts.specs.declared.Source.{Source}
 use Rattle.utils.specs.declared.slots.Slot.{Slot}
-use Rattle.casts.specs.Casts.{sourceFrom, constantSize, movzx, movsxd, sourceRecords, sourceSays, castSource, storeOp, convertedOf, isExtended, extendedOf, zeroExtendedOf, integerToFloat, floatToInteger}
+use Rattle.instructions.specs.Looks.{movedOf}
+use Rattle.casts.specs.Casts.{sourceFrom, constantSize, movzx, movsxd, sourceRecords, sourceSays, castSource, storeOp, convertedOf, isExtended, extendedOf, integerToFloat, floatToInteger}
 
 -- ---- the source
 
@@ -101,7 +102,7 @@ pub extended-looked : (ctx : Context) (dest : VarId) (s : spec.Source) → exten
 extended-looked ctx dest s = rung (convertVar ctx dest) _ _ _ (λ v. rung (varSize dest) _ _ _ (λ z. ap (λ (w : List Instruction). ok (s .records ++ w ++ spec.move v (Operand.Reg RAX) z ∷ [])) (cond-not (eqb (s .size) 8) [] (movsxd (s .operand) ∷ []))))
 
 module _ (ctx : Context) (dest : VarId) (src : IrOp) where
-  pub zero-extended-looked : {x : Operand} → sourceOf ctx src ≡ ok x → zeroExtended ctx dest src ≡ listed (lookSlot ctx dest) (zeroExtendedOf x)
+  pub zero-extended-looked : {x : Operand} → sourceOf ctx src ≡ ok x → zeroExtended ctx dest src ≡ listed (lookSlot ctx dest) (movedOf x Size.U32)
   unfolding zeroExtended
   zero-extended-looked e = rw (sized ctx RAX src Size.U32 (λ z. refl), e) (rung (convertVar ctx dest) _ _ _ (λ v. rung (varSize dest) _ _ _ (λ z. refl)))
 

@@ -1,4 +1,4 @@
--- Auxiliary: a cast's parts as the code holds them. A source is codegen's `castOperand` and `widened` by `source-found`; a conversion's and an extension's look-ups and records are codegen's `converted` and `extended` by `converted-looked` and `extended-looked`; those of an unsigned short are `zeroExtended` by `zero-extended-looked` (proofs/Casts).
+-- Auxiliary: a cast's parts as the code holds them. A source is codegen's `castOperand` and `widened` by `source-found`; a conversion's and an extension's look-ups and records are codegen's `converted` and `extended` by `converted-looked` and `extended-looked`; those of an unsigned short, moved by instructions' `movedOf`, are `zeroExtended` by `zero-extended-looked` (proofs/Casts).
 use Prim.Native.Nat.{ℕ}
 use mathlib.Core.Bool.{Bool, true, false, cond, not, _&&_}
 use mathlib.Core.List.{List, [], _∷_, _++_}
@@ -89,10 +89,6 @@ isExtended s = not (eqb (s .size) 8)
 
 abbrev pub extendedOf : spec.Source → Slot → List Instruction
 extendedOf s t = s .records ++ cond (isExtended s) (movsxd (s .operand) ∷ []) [] ++ move (t .var) (Operand.Reg RAX) (t .size) ∷ []
-
--- an unsigned short's cast to eight bytes, from where it is loaded
-abbrev pub zeroExtendedOf : Operand → Slot → List Instruction
-zeroExtendedOf src t = loadOf RAX src Size.U32 ∷ move (t .var) (Operand.Reg RAX) (t .size) ∷ []
 
 -- ---- conversions, by a float's size in bytes
 

@@ -1,10 +1,10 @@
 // Krc's codegen/instructions.rs, casts: `generate_cast`.
 use codegen::shorts::is_unsigned_short;
 use instructions::generate_copy;
+use instructions::put_moved;
 use ir::Operand as IrOp;
 use ir::read::operand_at;
 use ir::read::type_at;
-use ir::read::var_at;
 use ir::types::Number;
 use records::put_convert;
 use records::put_extend;
@@ -21,7 +21,7 @@ use utils::put_load;
 use utils::size_from;
 use utils::slots::Slot;
 use utils::slots::SlotResult;
-use utils::slots::look_slot;
+use utils::slots::look_slot_at;
 use utils::source_at;
 use utils::var_size_at;
 use x86::enums::BinOp;
@@ -43,8 +43,7 @@ ghost use Rattle.codegen.specs.Instructions.{operandKind, converted, extended, 
 ghost use Rattle.utils.specs.Answers.{lent};
 ghost use Rattle.utils.specs.Kinds.{kindSays};
 ghost use Rattle.utils.specs.Makes.{Makes, Ready};
-ghost use Rattle.utils.specs.Slots.{slotSays, lookSlot};
-ghost use Rattle.casts.specs.Casts.{isConstant, isByte, constantSize, movzx, sourceRecords, sourceOperand, sourceSize, sourceSays, sourceResultSays, castSource, storeOp, convertedOf, isExtended, extendedOf, floatToFloat, integerToFloat, floatToInteger, zeroExtendedOf};
+ghost use Rattle.casts.specs.Casts.{isConstant, isByte, constantSize, movzx, sourceRecords, sourceOperand, sourceSize, sourceSays, sourceResultSays, castSource, storeOp, convertedOf, isExtended, extendedOf, floatToFloat, integerToFloat, floatToInteger};
 
 // What is cast: its operand; whether it is a constant, which goes through RAX; whether it is one byte that is no float, which is widened there; and its
 // size in bytes before that.
@@ -170,14 +169,6 @@ fn put_source(out: &mut [u8], at: usize, s: Source)
     }
 }
 
-// Dest's slot, then its size.
-fn look_store(tables: &[u8], offsets: &[u64], s: &[u8], k: usize) -> SlotResult
-    requires { ⌜ k + 13 ≤ cells (now s) ⌝ }
-    ensures { λ r. ⌜ slotSays r ≡ lookSlot (lent (now (tables .entry)) (now (offsets .entry))) (varAt (now (s .entry)) (k + 2)) ⌝ }
-{
-    look_slot(tables, offsets, var_at(s, k + 2))
-}
-
 fn store_op(float: bool) -> BinOp
     ensures { λ r. ⌜ r ≡ storeOp float ⌝ }
 {
@@ -242,7 +233,7 @@ fn converted(
     ensures { λ r. ⌜ Makes write (converted (lent (now (tables .entry)) (now (offsets .entry))) (varAt (now (s .entry)) (k + 2)) (sourceSays from) op reg by) at (now (out .entry)) (now (out .exit)) r ⌝ }
 {
     let ty = type_at(s, k + 3);
-    match look_store(tables, offsets, s, k) {
+    match look_slot_at(tables, offsets, s, k + 2) {
         SlotResult::Is(t) => {
             let count = source_count(from) + 2;
             if write {
@@ -303,7 +294,7 @@ fn extended(
     requires { ⌜ Ready write (extended (lent (now tables) (now offsets)) (varAt (now s) (k + 2)) (sourceSays from)) at (length (now out)) ⌝ }
     ensures { λ r. ⌜ Makes write (extended (lent (now (tables .entry)) (now (offsets .entry))) (varAt (now (s .entry)) (k + 2)) (sourceSays from)) at (now (out .entry)) (now (out .exit)) r ⌝ }
 {
-    match look_store(tables, offsets, s, k) {
+    match look_slot_at(tables, offsets, s, k + 2) {
         SlotResult::Is(t) => {
             let count = source_count(from) + 1 + one_if(is_extended(from));
             if write {
@@ -432,16 +423,6 @@ fn is_zero_extended(op: IrOp, to: bool) -> bool
     if to { false } else { is_unsigned_short(op) }
 }
 
-fn put_zero_extended(out: &mut [u8], at: usize, src: Operand, t: Slot)
-    requires { ⌜ at + 64 * length (zeroExtendedOf src t) ≤ length (now out) ⌝ }
-    ensures { λ _. ⌜ now (out .exit) ≡ write (now (out .entry)) at (listBytes (zeroExtendedOf src t)) ⌝ }
-{
-    let var = t.var;
-    let size = t.size;
-    put_load(out, at, Register::RAX, src, Size::U32);
-    put_instruction(out, at + 64, mov(var, Operand::Reg(Register::RAX), size));
-}
-
 // An unsigned short to an integer of eight bytes: a four-byte load clears the upper half of RAX.
 fn zero_extended(
     tables: &[u8],
@@ -460,10 +441,10 @@ fn zero_extended(
         OperandResult::Is(src) => src,
         OperandResult::Refused(n) => return CountResult::Refused(n),
     };
-    match look_store(tables, offsets, s, k) {
+    match look_slot_at(tables, offsets, s, k + 2) {
         SlotResult::Is(t) => {
             if write {
-                put_zero_extended(out, at, src, t);
+                put_moved(out, at, src, Size::U32, t);
             }
             CountResult::Records(2)
         }

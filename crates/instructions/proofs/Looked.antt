@@ -1,7 +1,7 @@
 -- Each instruction's list, as codegen defines it, is made of what its look-ups find.
 use Prim.Native.Nat.{ℕ, _+_}
 use mathlib.Core.Path.{_≡_, refl, ap}
-use mathlib.Core.List.{List, _∷_}
+use mathlib.Core.List.{List, [], _∷_}
 use native.Mathlib.Omega.{arith}
 use Rattle.ir.specs.declared.«Type».{«Type» as IrType}
 use Rattle.ir.specs.declared.VarId.{VarId}
@@ -12,12 +12,15 @@ use Rattle.x86.specs.declared.enums.Size.{Size}
 use Rattle.x86.specs.declared.enums.Operand.{Operand}
 use Rattle.x86.specs.Registers.{RAX}
 use Rattle.codegen.specs.Context.{Context, labelAt}
-use Rattle.codegen.specs.Utils.{varSize, convertVar, ownSize}
-use Rattle.codegen.specs.Instructions.{funcEpilogue, generateReturn, generateCopy, generateZero, generateJmpIfNot, generateLabel, generateJump}
+use Rattle.codegen.specs.Utils.{convertVar, ownSize}
+use Rattle.codegen.specs.Instructions.{move, funcEpilogue, generateReturn, generateCopy, generateZero, generateJmpIfNot, generateLabel, generateJump}
+use Rattle.utils.specs.declared.slots.Slot.{Slot}
+use Rattle.utils.specs.Slots.{lookSlot}
 use Rattle.utils.specs.Sources.{sourceOf, loadOf}
 use Rattle.utils.specs.Makes.{listed}
-use Rattle.utils.proofs.Sources.{rung, rung-of, rung-load, sourced, var-given}
-use Rattle.instructions.specs.Looks.{returnRegister, returnOf, lookCopy, copyOf, lookZero, zeroOf, labelOf, jumpOf, lookBranch, branchOf}
+use Rattle.utils.proofs.Sources.{rung, rung-load, sourced, sized, var-given}
+use Rattle.utils.proofs.Looked.{slot-var, slot-size, slot-refused}
+use Rattle.instructions.specs.Looks.{returnRegister, returnOf, movedOf, lookZero, zeroOf, labelOf, jumpOf, lookBranch, branchOf}
 
 pub return-looked : (ctx : Context) (ret : IrType) (op : IrOp) → generateReturn ctx ret op ≡ listed (sourceOf ctx op) (returnOf ctx ret op)
 unfolding generateReturn
@@ -27,9 +30,20 @@ return-looked ctx ret op = rw (sourced ctx (returnRegister ret) op Size.NoSize) 
     go (ok src) = refl
     go (refused n) = refl
 
-pub copy-looked : (ctx : Context) (dest : VarId) (src : IrOp) → generateCopy ctx dest src ≡ listed (lookCopy ctx dest src) copyOf
+-- once dest's slot is known
+pub copy-looked : (ctx : Context) (dest : VarId) (src : IrOp) {t : Slot} → lookSlot ctx dest ≡ ok t
+    → generateCopy ctx dest src ≡ listed (sourceOf ctx src) (λ x. movedOf x (t .size) t)
 unfolding generateCopy
-copy-looked ctx dest src = rung (convertVar ctx dest) _ _ _ (λ v. rung-of (varSize dest) _ _ _ (var-given dest) (λ z s. rung-load ctx RAX src z _ _ _ s (λ x. refl)))
+copy-looked ctx dest src {t} e =
+    rw (slot-var ctx dest e, slot-size ctx dest e, sized ctx RAX src (t .size) (var-given dest .of (t .size) (slot-size ctx dest e))) (go (sourceOf ctx src))
+  where
+    go : (r : Result Operand) → ((r >>= λ x. ok (loadOf RAX x (t .size))) >>= λ load. ok (load ∷ move (t .var) (Operand.Reg RAX) (t .size) ∷ [])) ≡ listed r (λ x. movedOf x (t .size) t)
+    go (ok x) = refl
+    go (refused n) = refl
+
+pub no-slot : (ctx : Context) (dest : VarId) (src : IrOp) {n : ℕ} → lookSlot ctx dest ≡ refused n → generateCopy ctx dest src ≡ refused n
+unfolding generateCopy
+no-slot ctx dest src e = slot-refused ctx dest _ e
 
 pub zero-looked : (ctx : Context) (dest : VarId) → generateZero ctx dest ≡ listed (lookZero ctx dest) zeroOf
 unfolding generateZero

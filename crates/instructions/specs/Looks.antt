@@ -17,11 +17,10 @@ use Rattle.x86.specs.declared.enums.Prefix.{Prefix}
 use Rattle.x86.specs.declared.enums.Instruction.{Instruction}
 use Rattle.x86.specs.Registers.{xmm, RAX, RCX, RDI}
 use Rattle.codegen.specs.Context.{Context, labelAt}
-use Rattle.codegen.specs.Utils.{varSize, convertVar, ownSize}
+use Rattle.codegen.specs.Utils.{convertVar, ownSize}
 use Rattle.codegen.specs.Instructions.{move, funcEpilogue}
+use Rattle.utils.specs.declared.slots.Slot.{Slot}
 use Rattle.utils.specs.Sources.{sourceOf, loadOf}
-use Rattle.instructions.specs.declared.Moved.{Moved}
-use Rattle.instructions.specs.declared.MovedResult.{MovedResult}
 use Rattle.instructions.specs.declared.Branch.{Branch}
 use Rattle.instructions.specs.declared.BranchResult.{BranchResult}
 use Rattle.instructions.specs.declared.Zeroed.{Zeroed}
@@ -35,21 +34,11 @@ returnRegister ret = cond (isFloat ret) (xmm 0) RAX
 abbrev pub returnOf : Context → IrType → IrOp → Operand → List Instruction
 returnOf ctx ret op src = loadOf (returnRegister ret) src (ownSize ctx op) ∷ funcEpilogue
 
--- ---- copies
+-- ---- copies: dest's slot is looked up by utils' `lookSlot`, then the source
 
-abbrev pub movedSays : MovedResult → Result Moved
-movedSays (MovedResult.Is t) = ok t
-movedSays (MovedResult.Refused n) = refused n
-
-abbrev pub lookCopy : Context → VarId → IrOp → Result Moved
-lookCopy ctx dest op = do
-  var ← convertVar ctx dest
-  size ← varSize dest
-  src ← sourceOf ctx op
-  ok (record { src = src; var = var; size = size })
-
-abbrev pub copyOf : Moved → List Instruction
-copyOf t = loadOf RAX (t .src) (t .size) ∷ move (t .var) (Operand.Reg RAX) (t .size) ∷ []
+-- a source is loaded by a size, and RAX is stored to a slot
+abbrev pub movedOf : Operand → Size → Slot → List Instruction
+movedOf src by t = loadOf RAX src by ∷ move (t .var) (Operand.Reg RAX) (t .size) ∷ []
 
 -- ---- zero
 

@@ -11,13 +11,14 @@ use records::put_prefix;
 use records::put_stack;
 use utils::CountResult;
 use utils::OperandResult;
-use utils::SizeResult;
 use utils::convert_var_at;
 use utils::mov;
 use utils::own_size_at;
 use utils::put_load;
+use utils::slots::Slot;
+use utils::slots::SlotResult;
+use utils::slots::look_slot_at;
 use utils::source_at;
-use utils::var_size_at;
 use x86::enums::BinOp;
 use x86::enums::ConditionCode;
 use x86::enums::CtrlOp;
@@ -39,19 +40,7 @@ ghost use Rattle.codegen.specs.Context.{labelAt};
 ghost use Rattle.codegen.specs.Instructions.{funcEpilogue, generateReturn, generateCopy, generateZero, generateLabel, generateJump, generateJmpIfNot};
 ghost use Rattle.utils.specs.Answers.{lent};
 ghost use Rattle.utils.specs.Makes.{Makes, Ready};
-ghost use Rattle.instructions.specs.Looks.{returnRegister, movedSays, lookCopy, copyOf, zeroedSays, lookZero, zeroOf, branchSays, lookBranch, branchOf};
-
-// A source, dest's slot and dest's size.
-pub struct Moved {
-    pub src: Operand,
-    pub var: Operand,
-    pub size: Size,
-}
-
-pub enum MovedResult {
-    Is(Moved),
-    Refused(u64),
-}
+ghost use Rattle.instructions.specs.Looks.{returnRegister, movedOf, zeroedSays, lookZero, zeroOf, branchSays, lookBranch, branchOf};
 
 // A condition's source and a label.
 pub struct Branch {
@@ -147,32 +136,14 @@ pub fn generate_return(
 
 // ---- copies
 
-fn look_copy(tables: &[u8], offsets: &[u64], s: &[u8], k: usize) -> MovedResult
-    requires { ⌜ k + 13 ≤ cells (now s) ⌝ }
-    ensures { λ r. ⌜ movedSays r ≡ lookCopy (lent (now (tables .entry)) (now (offsets .entry))) (varAt (now (s .entry)) (k + 2)) (operandAt (now (s .entry)) (k + 5)) ⌝ }
-{
-    let var = match convert_var_at(tables, offsets, s, k + 2) {
-        OperandResult::Is(var) => var,
-        OperandResult::Refused(n) => return MovedResult::Refused(n),
-    };
-    let size = match var_size_at(s, k + 2) {
-        SizeResult::Is(size) => size,
-        SizeResult::Refused(n) => return MovedResult::Refused(n),
-    };
-    match source_at(tables, offsets, s, k + 5) {
-        OperandResult::Is(src) => MovedResult::Is(Moved { src, var, size }),
-        OperandResult::Refused(n) => MovedResult::Refused(n),
-    }
-}
-
-fn put_copy(out: &mut [u8], at: usize, t: Moved)
+// A load of the source by `by`, and the store of RAX to a slot.
+pub fn put_moved(out: &mut [u8], at: usize, src: Operand, by: Size, t: Slot)
     requires { ⌜ at + 128 ≤ length (now out) ⌝ }
-    ensures { λ _. ⌜ now (out .exit) ≡ write (now (out .entry)) at (listBytes (copyOf t)) ⌝ }
+    ensures { λ _. ⌜ now (out .exit) ≡ write (now (out .entry)) at (listBytes (movedOf src by t)) ⌝ }
 {
-    let src = t.src;
     let var = t.var;
     let size = t.size;
-    put_load(out, at, Register::RAX, src, size);
+    put_load(out, at, Register::RAX, src, by);
     put_instruction(out, at + 64, mov(var, Operand::Reg(Register::RAX), size));
 }
 
@@ -190,14 +161,19 @@ pub fn generate_copy(
     requires { ⌜ Ready write (generateCopy (lent (now tables) (now offsets)) (varAt (now s) (k + 2)) (operandAt (now s) (k + 5))) at (length (now out)) ⌝ }
     ensures { λ r. ⌜ Makes write (generateCopy (lent (now (tables .entry)) (now (offsets .entry))) (varAt (now (s .entry)) (k + 2)) (operandAt (now (s .entry)) (k + 5))) at (now (out .entry)) (now (out .exit)) r ⌝ }
 {
-    match look_copy(tables, offsets, s, k) {
-        MovedResult::Is(t) => {
+    let t = match look_slot_at(tables, offsets, s, k + 2) {
+        SlotResult::Is(t) => t,
+        SlotResult::Refused(n) => return CountResult::Refused(n),
+    };
+    match source_at(tables, offsets, s, k + 5) {
+        OperandResult::Is(src) => {
+            let size = t.size;
             if write {
-                put_copy(out, at, t);
+                put_moved(out, at, src, size, t);
             }
             CountResult::Records(2)
         }
-        MovedResult::Refused(n) => CountResult::Refused(n),
+        OperandResult::Refused(n) => CountResult::Refused(n),
     }
 }
 

@@ -4,9 +4,13 @@ use crate::SizeResult;
 use crate::convert_var;
 use crate::var_size;
 use ir::VarId;
+use ir::read::var_at;
 use x86::enums::Operand;
 use x86::enums::Size;
 ghost use mathlib.Core.Path.{_≡_};
+ghost use Prim.Native.Nat.{_+_, _≤_};
+ghost use Rattle.cells.specs.Cells.{cells};
+ghost use Rattle.ir.specs.Function.{varAt};
 ghost use Rattle.utils.specs.Answers.{lent};
 ghost use Rattle.utils.specs.Slots.{slotSays, lookSlot};
 
@@ -32,4 +36,12 @@ pub fn look_slot(tables: &[u8], offsets: &[u64], v: VarId) -> SlotResult
         SizeResult::Is(size) => SlotResult::Is(Slot { var, size }),
         SizeResult::Refused(n) => SlotResult::Refused(n),
     }
+}
+
+// .. of the variable at a cell of the sheet.
+pub fn look_slot_at(tables: &[u8], offsets: &[u64], s: &[u8], k: usize) -> SlotResult
+    requires { ⌜ k + 3 ≤ cells (now s) ⌝ }
+    ensures { λ r. ⌜ slotSays r ≡ lookSlot (lent (now (tables .entry)) (now (offsets .entry))) (varAt (now (s .entry)) k) ⌝ }
+{
+    look_slot(tables, offsets, var_at(s, k))
 }

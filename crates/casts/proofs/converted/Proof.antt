@@ -10,20 +10,20 @@ use Rattle.casts.proofs.converted.Statement.{statement}
 use Rattle.casts.proofs.converted.Tie as tie
 
 put-converted-requires : tie.Need-put-converted-requires
-put-converted-requires c κs = rw (c .store-op .ensures ∙ ap storeOp (c .before .is-float .ensures ∙ ap isFloat (c .before .before .before .before .before .before .before .before .before .type-at .ensures ∙ dest-type _ _))) (has-room (convertedOf (sourceSays (c .before .before .before .before .before .before .before .before .before .before .before .before .before .before .args .from)) (c .before .before .before .before .before .before .before .before .before .before .before .before .before .before .args .op) (c .before .before .before .before .before .before .before .before .before .before .before .before .before .before .args .reg) (c .before .before .before .before .before .before .before .before .before .before .before .before .before .before .args .by) _) (converted-looked _ _ (sourceSays (c .before .before .before .before .before .before .before .before .before .before .before .before .before .before .args .from)) (c .before .before .before .before .before .before .before .before .before .before .before .before .before .before .args .op) (c .before .before .before .before .before .before .before .before .before .before .before .before .before .before .args .reg) (c .before .before .before .before .before .before .before .before .before .before .before .before .before .before .args .by)) (told slotSays (c .before .before .before .before .before .before .before .before .look-store .ensures) (c .before .before .before .before .before .before .t .given .1)) (c .before .before .before .before .before .before .before .before .before .before .before .before .before .before .pre .1) (c .before .before .before .if1 .taken))
+put-converted-requires c κs = rw (c .store-op .ensures ∙ ap storeOp (c .before .is-float .ensures ∙ ap isFloat (c .before .before .before .before .before .before .before .before .before .type-at .ensures ∙ dest-type _ _))) (has-room (convertedOf (sourceSays (c .before .before .before .before .before .before .before .before .before .before .before .before .before .before .args .from)) (c .before .before .before .before .before .before .before .before .before .before .before .before .before .before .args .op) (c .before .before .before .before .before .before .before .before .before .before .before .before .before .before .args .reg) (c .before .before .before .before .before .before .before .before .before .before .before .before .before .before .args .by) _) (converted-looked _ _ (sourceSays (c .before .before .before .before .before .before .before .before .before .before .before .before .before .before .args .from)) (c .before .before .before .before .before .before .before .before .before .before .before .before .before .before .args .op) (c .before .before .before .before .before .before .before .before .before .before .before .before .before .before .args .reg) (c .before .before .before .before .before .before .before .before .before .before .before .before .before .before .args .by)) (told slotSays (c .before .before .before .before .before .before .before .before .look-slot-at .ensures) (c .before .before .before .before .before .before .t .given .1)) (c .before .before .before .before .before .before .before .before .before .before .before .before .before .before .pre .1) (c .before .before .before .if1 .taken))
 
 returns : tie.Need-returns
-returns c = as-many (makes (convertedOf (sourceSays (c .before .before .before .before .before .before .before .before .before .before .before .before .before .before .before .before .before .args .from)) (c .before .before .before .before .before .before .before .before .before .before .before .before .before .before .before .before .before .args .op) (c .before .before .before .before .before .before .before .before .before .before .before .before .before .before .before .before .before .args .reg) (c .before .before .before .before .before .before .before .before .before .before .before .before .before .before .before .before .before .args .by) _) (converted-looked _ _ (sourceSays (c .before .before .before .before .before .before .before .before .before .before .before .before .before .before .before .before .before .args .from)) (c .before .before .before .before .before .before .before .before .before .before .before .before .before .before .before .before .before .args .op) (c .before .before .before .before .before .before .before .before .before .before .before .before .before .before .before .before .before .args .reg) (c .before .before .before .before .before .before .before .before .before .before .before .before .before .before .before .before .before .args .by)) (told slotSays (c .before .before .before .before .before .before .before .before .before .before .before .look-store .ensures) (c .before .before .before .before .before .before .before .before .before .t .given .1)) (c .before .before .before .before .before .before .if1 .taken) (rw (c .before .before .before .store-op .ensures ∙ ap storeOp (c .before .before .before .before .is-float .ensures ∙ ap isFloat (c .before .before .before .before .before .before .before .before .before .before .before .before .type-at .ensures ∙ dest-type _ _))) at (c .before .before .put-converted .ensures))) (rw (c .before .before .before .before .before .before .before .source-count .ensures .0, two-behind))
+returns c = as-many (makes (convertedOf (sourceSays (c .before .before .before .before .before .before .before .before .before .before .before .before .before .before .before .before .before .args .from)) (c .before .before .before .before .before .before .before .before .before .before .before .before .before .before .before .before .before .args .op) (c .before .before .before .before .before .before .before .before .before .before .before .before .before .before .before .before .before .args .reg) (c .before .before .before .before .before .before .before .before .before .before .before .before .before .before .before .before .before .args .by) _) (converted-looked _ _ (sourceSays (c .before .before .before .before .before .before .before .before .before .before .before .before .before .before .before .before .before .args .from)) (c .before .before .before .before .before .before .before .before .before .before .before .before .before .before .before .before .before .args .op) (c .before .before .before .before .before .before .before .before .before .before .before .before .before .before .before .before .before .args .reg) (c .before .before .before .before .before .before .before .before .before .before .before .before .before .before .before .before .before .args .by)) (told slotSays (c .before .before .before .before .before .before .before .before .before .before .before .look-slot-at .ensures) (c .before .before .before .before .before .before .before .before .before .t .given .1)) (c .before .before .before .before .before .before .if1 .taken) (rw (c .before .before .before .store-op .ensures ∙ ap storeOp (c .before .before .before .before .is-float .ensures ∙ ap isFloat (c .before .before .before .before .before .before .before .before .before .before .before .before .type-at .ensures ∙ dest-type _ _))) at (c .before .before .put-converted .ensures))) (rw (c .before .before .before .before .before .before .before .source-count .ensures .0, two-behind))
 
 returns-2 : tie.Need-returns-2
-returns-2 c = as-many (counts (convertedOf (sourceSays (c .before .before .before .before .before .before .before .before .before .before .before .args .from)) (c .before .before .before .before .before .before .before .before .before .before .before .args .op) (c .before .before .before .before .before .before .before .before .before .before .before .args .reg) (c .before .before .before .before .before .before .before .before .before .before .before .args .by) _) (converted-looked _ _ (sourceSays (c .before .before .before .before .before .before .before .before .before .before .before .args .from)) (c .before .before .before .before .before .before .before .before .before .before .before .args .op) (c .before .before .before .before .before .before .before .before .before .before .before .args .reg) (c .before .before .before .before .before .before .before .before .before .before .before .args .by)) (told slotSays (c .before .before .before .before .before .look-store .ensures) (c .before .before .before .t .given .1)) (c .if1 .left)) (rw (c .before .source-count .ensures .0, two-behind))
+returns-2 c = as-many (counts (convertedOf (sourceSays (c .before .before .before .before .before .before .before .before .before .before .before .args .from)) (c .before .before .before .before .before .before .before .before .before .before .before .args .op) (c .before .before .before .before .before .before .before .before .before .before .before .args .reg) (c .before .before .before .before .before .before .before .before .before .before .before .args .by) _) (converted-looked _ _ (sourceSays (c .before .before .before .before .before .before .before .before .before .before .before .args .from)) (c .before .before .before .before .before .before .before .before .before .before .before .args .op) (c .before .before .before .before .before .before .before .before .before .before .before .args .reg) (c .before .before .before .before .before .before .before .before .before .before .before .args .by)) (told slotSays (c .before .before .before .before .before .look-slot-at .ensures) (c .before .before .before .t .given .1)) (c .if1 .left)) (rw (c .before .source-count .ensures .0, two-behind))
 
 returns-3 : tie.Need-returns-3
-returns-3 c = refuses (convertedOf (sourceSays (c .before .before .before .before .before .before .before .before .before .args .from)) (c .before .before .before .before .before .before .before .before .before .args .op) (c .before .before .before .before .before .before .before .before .before .args .reg) (c .before .before .before .before .before .before .before .before .before .args .by) _) (converted-looked _ _ (sourceSays (c .before .before .before .before .before .before .before .before .before .args .from)) (c .before .before .before .before .before .before .before .before .before .args .op) (c .before .before .before .before .before .before .before .before .before .args .reg) (c .before .before .before .before .before .before .before .before .before .args .by)) (told slotSays (c .before .before .before .look-store .ensures) (c .before .n .given .1))
+returns-3 c = refuses (convertedOf (sourceSays (c .before .before .before .before .before .before .before .before .before .args .from)) (c .before .before .before .before .before .before .before .before .before .args .op) (c .before .before .before .before .before .before .before .before .before .args .reg) (c .before .before .before .before .before .before .before .before .before .args .by) _) (converted-looked _ _ (sourceSays (c .before .before .before .before .before .before .before .before .before .args .from)) (c .before .before .before .before .before .before .before .before .before .args .op) (c .before .before .before .before .before .before .before .before .before .args .reg) (c .before .before .before .before .before .before .before .before .before .args .by)) (told slotSays (c .before .before .before .look-slot-at .ensures) (c .before .n .given .1))
 
 pub converted-spec : {M : Type 1} → statement M
 converted-spec =
     tie.close
     (tie.spec
-    (λ c. search needs) (λ c κs. search needs) (λ c κs. search needs) (λ c. search needs) (λ c κs. search needs) (λ c. search needs)
+    (λ c. search needs) (λ c κs. search needs) (λ c. search needs) (λ c κs. search needs) (λ c. search needs) (λ c κs. search needs) (λ c. search needs)
     (λ c κs. search needs) (λ c κs. search needs) put-converted-requires (λ c. search needs) (λ c. search needs) returns returns-2 returns-3)
