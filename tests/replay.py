@@ -3,9 +3,8 @@
 
 usage: replay.py [--check]
 
-Writes crates/replay/stdout: a line for each case that is refused by 1, 2 or 3 (its number from 0, the refusal, the place), then the count of cases and
-of the refusals 1, 2 and 3 by the checks alone; then what the lowering and the plain test must have answered, with no difference. With --check it compares
-the file that is there.
+Writes crates/replay/stdout: how often each answer of the lowering stands in the list, how many records, how many plain functions, and no difference. With
+--check it compares the file that is there.
 """
 import pathlib, sys
 import vectors
@@ -19,11 +18,8 @@ def words(numbers):
 
 
 def text(cases):
-    refused = [c for c in cases if c.number in (1, 2, 3)]
-    lines = [f"{c.index} {c.number} {c.place}" for c in refused]
     counts = [sum(1 for c in cases if c.number == n) for n in range(10)]
-    lines.append(words([len(cases)] + counts[1:4]))
-    lines.append(f"accepted {counts[0]}, records {sum(len(c.records) for c in cases)}")
+    lines = [f"{len(cases)} cases, accepted {counts[0]}, records {sum(len(c.records) for c in cases)}"]
     lines += ["refused " + words(counts[n:n + 3]) for n in (1, 4, 7)]
     lines.append(f"plain {sum(1 for c in cases if not c.faults)}, differences 0")
     return "".join(line + "\n" for line in lines)

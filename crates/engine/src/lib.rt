@@ -1,8 +1,10 @@
 // What the C engine links: the lowering and the plain test, on byte slices, with numbers for answers.
-use conditions::Plainness;
 use generation::Answer;
+use generation::count;
 use generation::generate;
-use plain::plain;
+use plain::Plainness;
+use plain::plain_accepted;
+use plain::plain_refused;
 ghost use mathlib.Core.Path.{_≡_};
 ghost use mathlib.Core.Logic.{_↔_};
 ghost use lib.ListN.{length};
@@ -10,6 +12,7 @@ ghost use Rattle.codegen.specs.Generation.{lowered, recordsAfter};
 ghost use Rattle.machine.specs.Plain.{Plain, firstFault};
 ghost use Rattle.machine.specs.Calls.{Demand2};
 ghost use Rattle.machine.specs.Simulation.{Demand3};
+ghost use Rattle.plain.specs.Answers.{plainSays};
 ghost use Rattle.engine.specs.Numbers.{numberOf, IsNumber, valueOf, yesOf, faultOf};
 
 // Lowers the sheet. Gives 0, with the number of records in `place`, or the number of a refusal, with its place.
@@ -40,6 +43,16 @@ pub extern "C" fn gilthoren_lower(
     }
 }
 
+// The plain test (01, "Plain integer functions"): yes where every condition holds, or no with the first number at fault.
+fn plainness(tables: &[u8], sheet: &[u8]) -> Plainness
+    ensures { λ r. ⌜ plainSays r ≡ firstFault (now (tables .entry)) (now (sheet .entry)) ⌝ }
+{
+    match count(tables, sheet) {
+        Answer::Accepted(_) => plain_accepted(sheet),
+        Answer::Refused(number, place) => plain_refused(sheet, number, place),
+    }
+}
+
 // The plain test. Gives 1 for yes, with 0 in `place`; or 0 for no, with the first number at fault.
 #[no_mangle]
 pub extern "C" fn gilthoren_plain(tables: &[u8], sheet: &[u8], place: &mut u64) -> u64
@@ -48,7 +61,7 @@ pub extern "C" fn gilthoren_plain(tables: &[u8], sheet: &[u8], place: &mut u64) 
     ensures lent { λ r. ⌜ (now (tables .exit) ≡ now (tables .entry)) × (now (sheet .exit) ≡ now (sheet .entry)) ⌝ }
     ensures plain { λ r. ⌜ r ≡ 1 ↔ Plain (now (tables .entry)) (now (sheet .entry)) ⌝ }
 {
-    match plain(tables, sheet) {
+    match plainness(tables, sheet) {
         Plainness::Yes => {
             *place = 0;
             1

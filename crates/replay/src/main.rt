@@ -1,14 +1,12 @@
-// The fixed list of the oracle's answers (vectors/README.md has its form) is standard input. Each of its cases goes through the checks of the
-// layout, the lowering and the plain test. A case that the checks refuse gives a line: its number from 0, the refusal and the place. A case whose
-// answer, records, lent bytes or plain test are not as the list has them gives a line `difference`. The last lines have the counts.
+// The fixed list of the oracle's answers (vectors/README.md has its form) is standard input. Each of its cases goes through the lowering and the plain
+// test as C calls them. A case whose answer, records, lent bytes or plain test are not as the list has them gives a line `difference`. The last lines
+// have the counts.
 use cells::Cell;
 use cells::Cursor;
 use cells::cell_at;
 use cells::put_word;
-use conditions::Plainness;
-use generation::Answer;
-use generation::generate;
-use plain::plain;
+use engine::gilthoren_lower;
+use engine::gilthoren_plain;
 ghost use mathlib.Core.Path.{_≡_};
 ghost use lib.ListN.{length};
 
@@ -18,7 +16,7 @@ const MAGIC: u64 = 3544406871819637323;
 // Bytes in front of the record bytes that are lent, and behind them.
 const EDGE: usize = 64;
 
-// A number of the list and the place behind it; or the list is cut short, or the number has more than ten bytes.
+// A number of the list, or of bytes that were read into a slice, and the place behind it in the list; or the list is malformed.
 enum Read {
     Number(u64, usize),
     Bad,
@@ -27,12 +25,6 @@ enum Read {
 // The place behind what was read; or the list is malformed.
 enum Place {
     At(usize),
-    Bad,
-}
-
-// How many bytes were read into a slice, and the place behind them in the list; or the list is malformed.
-enum Slice {
-    Bytes(usize, usize),
     Bad,
 }
 
@@ -120,36 +112,36 @@ fn bytes_in(list: &[u8], at: usize, n: usize, out: &mut [u8], from: usize) -> Pl
 }
 
 // The bytes of a torn last cell, which stand behind `whole` bytes of cells.
-fn tail_in(list: &[u8], at: usize, whole: usize, out: &mut [u8]) -> Slice {
+fn tail_in(list: &[u8], at: usize, whole: usize, out: &mut [u8]) -> Read {
     if list.len() <= at {
-        return Slice::Bad;
+        return Read::Bad;
     }
     let n = wide(list[at]);
     if 7 < n {
-        return Slice::Bad;
+        return Read::Bad;
     }
     if 1048576 < whole {
-        return Slice::Bad;
+        return Read::Bad;
     }
     match bytes_in(list, at + 1, n as usize, out, whole) {
-        Place::At(next) => Slice::Bytes(whole + n as usize, next),
-        Place::Bad => Slice::Bad,
+        Place::At(next) => Read::Number(whole as u64 + n, next),
+        Place::Bad => Read::Bad,
     }
 }
 
 // A slice, at the start of `out`.
-fn slice_in(list: &[u8], at: usize, out: &mut [u8]) -> Slice {
+fn slice_in(list: &[u8], at: usize, out: &mut [u8]) -> Read {
     match number(list, at) {
         Read::Number(n, first) => {
             if 131072 < n {
-                return Slice::Bad;
+                return Read::Bad;
             }
             match cells_in(list, first, n, out) {
                 Place::At(tail) => tail_in(list, tail, 8 * n as usize, out),
-                Place::Bad => Slice::Bad,
+                Place::Bad => Read::Bad,
             }
         }
-        Read::Bad => Slice::Bad,
+        Read::Bad => Read::Bad,
     }
 }
 
@@ -162,14 +154,12 @@ fn print_line(index: u64, n: u64, place: u64) {
     io::write_all(1, b"\n");
 }
 
-// Counts: accepted, the refusals 1 to 9, records, plain functions, differences, and the refusals 1 to 3 of the checks alone.
+// Counts: accepted, the refusals 1 to 9, records, plain functions and differences.
 const RECORDS: usize = 10;
 
 const PLAIN: usize = 11;
 
 const DIFFERENCES: usize = 12;
-
-const CHECKS: usize = 12;
 
 fn count(counts: &mut [u64; 16], k: usize, by: u64) {
     if k < 16 {
@@ -185,23 +175,6 @@ fn difference(index: u64, what: u64, counts: &mut [u64; 16]) {
     io::print_decimal(1, what);
     io::write_all(1, b"\n");
     count(counts, DIFFERENCES, 1);
-}
-
-// Writes and counts a refusal by the checks of the layout.
-fn refused(index: u64, n: u64, place: u64, counts: &mut [u64; 16]) {
-    if n < 4 {
-        print_line(index, n, place);
-        count(counts, CHECKS + n as usize, 1);
-    }
-}
-
-// The checks of one case, without room for a record.
-fn check(index: u64, tables: &[u8], sheet: &[u8], counts: &mut [u64; 16]) {
-    let mut none = [0u8; 1];
-    match generate(tables, sheet, &mut none) {
-        Answer::Accepted(_) => {}
-        Answer::Refused(n, place) => refused(index, n, place, counts),
-    }
 }
 
 // The byte that stands at a place of the record bytes before a call.
@@ -230,34 +203,6 @@ fn is_filled(records: &[u8], from: usize, to: usize) -> bool {
         k += 1;
     }
     true
-}
-
-// The lowering into the record bytes but for EDGE at their start and at their end.
-fn lower(tables: &[u8], sheet: &[u8], records: &mut [u8]) -> Answer {
-    if records.len() < 2 * EDGE {
-        return Answer::Refused(0, 0);
-    }
-    let end = records.len() - EDGE;
-    generate(tables, sheet, &mut records[EDGE..end])
-}
-
-fn count_answer(a: Answer, counts: &mut [u64; 16]) {
-    match a {
-        Answer::Accepted(_) => count(counts, 0, 1),
-        Answer::Refused(n, _) => {
-            if n < 10 {
-                count(counts, n as usize, 1);
-            }
-        }
-    }
-}
-
-// Whether an answer is the refusal and place of the list, or acceptance, of number 0, and the count.
-fn is_answer(a: Answer, refusal: u64, place: u64) -> bool {
-    match a {
-        Answer::Accepted(n) => refusal == 0 && n == place,
-        Answer::Refused(n, k) => 0 < n && n == refusal && k == place,
-    }
 }
 
 // Whether the next n cells of the list are those at the start of `out`.
@@ -312,7 +257,8 @@ fn records_in(
     Place::At(next)
 }
 
-// The lowering of a case, against the list's refusal and place, or 0 and the count of records.
+// The lowering of a case into the record bytes but for EDGE at their start and at their end, against the list's refusal and place, or 0 and the count
+// of records.
 fn held(
     list: &[u8],
     at: usize,
@@ -324,10 +270,15 @@ fn held(
     records: &mut [u8],
     counts: &mut [u64; 16],
 ) -> Place {
+    if records.len() < 2 * EDGE {
+        return Place::Bad;
+    }
     fill(records);
-    let answer = lower(tables, sheet, records);
-    count_answer(answer, counts);
-    if !is_answer(answer, refusal, place) {
+    let end = records.len() - EDGE;
+    let mut found = 0;
+    let number = gilthoren_lower(tables, sheet, &mut records[EDGE..end], &mut found);
+    count(counts, number as usize, 1);
+    if !(number == refusal && found == place) {
         difference(index, 1, counts);
     }
     if refusal == 0 {
@@ -407,27 +358,22 @@ fn plainness(
     let Read::Number(n, first) = number(list, at) else {
         return Place::Bad;
     };
-    match plain(tables, sheet) {
-        Plainness::Yes => {
-            count(counts, PLAIN, 1);
-            let Compared::At(next, _) = is_first(list, first, n, 0) else {
-                return Place::Bad;
-            };
-            if 0 < n {
-                difference(index, 4, counts);
-            }
-            Place::At(next)
+    let mut fault = 0;
+    let yes = gilthoren_plain(tables, sheet, &mut fault);
+    let Compared::At(next, found) = is_first(list, first, n, fault) else {
+        return Place::Bad;
+    };
+    count(counts, PLAIN, yes);
+    if yes == 1 {
+        if 0 < n {
+            difference(index, 4, counts);
         }
-        Plainness::No(k) => {
-            let Compared::At(next, found) = is_first(list, first, n, k) else {
-                return Place::Bad;
-            };
-            if !found {
-                difference(index, 4, counts);
-            }
-            Place::At(next)
-        }
+        return Place::At(next);
     }
+    if !found {
+        difference(index, 4, counts);
+    }
+    Place::At(next)
 }
 
 // A case's tables and sheet, through everything.
@@ -440,7 +386,6 @@ fn answer(
     records: &mut [u8],
     counts: &mut [u64; 16],
 ) -> Place {
-    check(index, tables, sheet, counts);
     match lowering(list, at, index, tables, sheet, records, counts) {
         Place::At(faults) => plainness(list, faults, index, tables, sheet, counts),
         Place::Bad => Place::Bad,
@@ -457,24 +402,24 @@ fn case(
     records: &mut [u8],
     counts: &mut [u64; 16],
 ) -> Place {
-    let Slice::Bytes(t, second) = slice_in(list, at, tables) else {
+    let Read::Number(t, second) = slice_in(list, at, tables) else {
         return Place::Bad;
     };
-    let Slice::Bytes(s, rest) = slice_in(list, second, sheet) else {
+    let Read::Number(s, rest) = slice_in(list, second, sheet) else {
         return Place::Bad;
     };
-    if tables.len() < t {
+    if tables.len() < t as usize {
         return Place::Bad;
     }
-    if sheet.len() < s {
+    if sheet.len() < s as usize {
         return Place::Bad;
     }
     answer(
         list,
         rest,
         index,
-        &tables[..t],
-        &sheet[..s],
+        &tables[..t as usize],
+        &sheet[..s as usize],
         records,
         counts,
     )
@@ -563,9 +508,7 @@ fn replay(list: &[u8]) {
 
 fn print_counts(n: u64, counts: &[u64; 16]) {
     io::print_decimal(1, n);
-    io::write_all(1, b" ");
-    print_line(counts[13], counts[14], counts[15]);
-    io::write_all(1, b"accepted ");
+    io::write_all(1, b" cases, accepted ");
     io::print_decimal(1, counts[0]);
     io::write_all(1, b", records ");
     io::print_decimal(1, counts[RECORDS]);

@@ -1,5 +1,5 @@
 use mathlib.Core.Path.{refl, sym, ap, _∙_}
-use Rattle.conditions.specs.Answers.{plainSays}
+use Rattle.plain.specs.Answers.{plainSays}
 use Rattle.engine.specs.Numbers.{yesOf, faultOf}
 use Rattle.engine.proofs.Numbers.{plain-yes, plain-no}
 use borrow.Author.Needs.{needs}
@@ -8,12 +8,12 @@ use Rattle.engine.proofs.gilthoren_plain.Tie as tie
 
 returns : tie.Need-returns
 returns c =
-    let e = sym (ap plainSays (c .enum-told .given .1)) ∙ c .before .before .plain .ensures in
+    let e = sym (ap plainSays (c .enum-told .given .1)) ∙ c .before .before .plainness .ensures in
     (ap yesOf e, (ap faultOf e, ((refl, refl), plain-yes e)))
 
 returns-2 : tie.Need-returns-2
 returns-2 c =
-    let e = sym (ap plainSays (c .before .number .given .1)) ∙ c .before .before .before .plain .ensures in
+    let e = sym (ap plainSays (c .before .number .given .1)) ∙ c .before .before .before .plainness .ensures in
     (ap yesOf e, (ap faultOf e, ((refl, refl), plain-no e)))
 
 pub gilthoren-plain-spec : {M : Type 1} → statement M
