@@ -80,13 +80,13 @@ sheet-head s = sym (head-then s (λ instrs c. bindChecked (instrsCheck s instrs 
 
 -- what is known, how many instructions there are, and where they start
 pub head-right : (s : List ℕ) {n : ℕ} {c : Cursor} → headCheck s ≡ Limited.Word n c →
-    RightHead s (Checked.Behind (cursor (bodyFrom s))) c × (n ≡ cellAt s 5) × (c .at ≡ bodyFrom s)
+    RightHead s × (n ≡ cellAt s 5) × (c .at ≡ bodyFrom s)
 head-right s {n} {c} h =
     let at = head-passed s (λ instrs d. Checked.Behind d)
     (sym (head-then s (λ instrs d. Checked.Behind d)) ∙ ap (λ (x : Limited). bindLimited x (λ instrs d. Checked.Behind d)) h) in
     let count = head-passed s (λ instrs d. Checked.Behind (cursor instrs))
     (sym (head-then s (λ instrs d. Checked.Behind (cursor instrs))) ∙ ap (λ (x : Limited). bindLimited x (λ instrs d. Checked.Behind (cursor instrs))) h) in
-    (at, place (count .rest), place (at .rest))
+    (at .0, place (count .1), place (at .1))
 
 module _ (s : List ℕ) {n : ℕ} {c : Cursor} (h : headCheck s ≡ Limited.Word n c) where
   pub head-header : 6 ≤ cells s

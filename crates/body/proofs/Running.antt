@@ -28,7 +28,7 @@ use Rattle.codegen.specs.Generation.{Outcome, accepted, refused, _>>=_, at, gen
 use Rattle.codegen.specs.Bounds.{mostRecords, mostInBody}
 use Rattle.codegen.proofs.Results.{never}
 use Rattle.codegen.proofs.Shapes.{isReturn, Part, instr-part, ends-some, ends-same}
-use Rattle.calls.proofs.Pushes.{operands-count}
+use Rattle.ir.proofs.Sheet.{operands-length}
 use Rattle.utils.specs.declared.CountResult.{CountResult}
 use Rattle.utils.specs.Answers.{lent, counted}
 use Rattle.utils.specs.Makes.{after, Makes, Fits, Ready, then}
@@ -230,7 +230,7 @@ module _ {ctx : Context} {labels : ℕ} {ret : IrType} {s : List ℕ} {whole : O
           answer = counted-ok line (m .says)
 
           pub walked-few : n ≤ mostRecords 64
-          walked-few = omega (arith, part (answer .0) (answer .1) (answer .2) .few, answer .2, operands-count s (argumentsAt s (here .at)) (here .at + 13), right-few s here e)
+          walked-few = omega (arith, part (answer .0) (answer .1) (answer .2) .few, answer .2, operands-length s (argumentsAt s (here .at)) (here .at + 13), right-few s here e)
 
           pub walked-more : Walking ctx labels ret s whole all writes place old (left - 1) d (i + 1) (made + n) (cond (ltb 0 n) (eqb (cellAt s (here .at)) 9) last) newer
           walked-more =

@@ -23,7 +23,7 @@ use Rattle.utils.specs.declared.CountResult.{CountResult}
 use Rattle.utils.specs.Makes.{Makes, Ready, then}
 use Rattle.utils.proofs.Rows.{InRow, first-ready, first-stops, second-ready, second-stops, both-made}
 use Rattle.calls.specs.Calls.{stackArguments, callOf, callRaised, callSymbol}
-use Rattle.calls.proofs.Pushes.{operands-count}
+use Rattle.ir.proofs.Sheet.{operands-length}
 
 -- ---- the parts
 
@@ -92,7 +92,7 @@ few-moved op k = yields (stack-few op k)
 
 module _ (s : List ℕ) (n from : ℕ) where
   pub excess-count : {k : ℕ} → k ≡ length (excess floating 0 0 (operandsAt s n from)) → k ≤ n
-  excess-count e = omega (arith, excess-few floating 0 0 (operandsAt s n from), operands-count s n from)
+  excess-count e = omega (arith, excess-few floating 0 0 (operandsAt s n from), operands-length s n from)
 
   pub few-pushes : (ctx : Context) → Yields (pushArguments ctx 0 (excess floating 0 0 (operandsAt s n from))) (λ is. length is ≤ 2 * n)
   few-pushes ctx = weaken (pushes-few ctx 0 (excess floating 0 0 (operandsAt s n from))) (λ is p. omega (arith, p, excess-count refl))
@@ -102,7 +102,7 @@ module _ (s : List ℕ) (n from : ℕ) where
   few-stacked ctx = then-few (few-moved BinOp.Sub (length (excess floating 0 0 (operandsAt s n from)))) (few-pushes ctx)
 
   pub few-loads : (ctx : Context) → Yields (loadArguments ctx 0 0 (operandsAt s n from)) (λ is. length is ≤ n + 1)
-  few-loads ctx = weaken (loads-few ctx 0 0 (operandsAt s n from)) (λ is p. omega (arith, p, operands-count s n from))
+  few-loads ctx = weaken (loads-few ctx 0 0 (operandsAt s n from)) (λ is p. omega (arith, p, operands-length s n from))
 
 pub few-raised : (symbol k : ℕ) → Yields (ok (callRaised symbol k)) (λ is. length is ≤ 2)
 few-raised symbol k = yields (omega (arith, stack-few BinOp.Add k))

@@ -8,6 +8,7 @@ use lib.ListN.{length}
 use Rattle.ir.specs.declared.Operand.{Operand as IrOp}
 use Rattle.ir.specs.Types.{Result, ok, refused, _>>=_}
 use Rattle.ir.specs.Function.{operandAt, operandsAt}
+use Rattle.ir.proofs.Sheet.{operands-length}
 use Rattle.x86.specs.declared.enums.Size.{Size}
 use Rattle.x86.specs.declared.enums.Instruction.{Instruction}
 use Rattle.x86.specs.Registers.{RAX}
@@ -32,11 +33,6 @@ pub none-left : (s : List ℕ) (cell : ℕ) → operandsAt s 0 cell ≡ []
 unfolding operandsAt
 none-left s cell = refl
 
-pub operands-count : (s : List ℕ) (n k : ℕ) → length (operandsAt s n k) ≡ n
-unfolding operandsAt
-operands-count s zero k = refl
-operands-count s (suc n) k = ap suc (operands-count s n (k + 4))
-
 -- ---- how many are in excess
 
 -- of n arguments, `left` from a cell on are to come
@@ -46,7 +42,7 @@ pub record Counting (s : List ℕ) (n from left cell : ℕ) (t : Taken) : Type 0
   pub so-many : t .stack + length (beyond floating t (operandsAt s left cell)) ≡ length (excess floating 0 0 (operandsAt s n from))
 
 pub few-counted : (s : List ℕ) (n from : ℕ) → n ≤ 6 → 0 ≡ length (excess floating 0 0 (operandsAt s n from))
-few-counted s n from h = sym (ap length (few-fit floating (operandsAt s n from) (omega (arith, operands-count s n from))))
+few-counted s n from h = sym (ap length (few-fit floating (operandsAt s n from) (omega (arith, operands-length s n from))))
 
 pub none-counted : (s : List ℕ) (n from : ℕ) → Counting s n from n from (taken 0 0 0)
 none-counted s n from = record { few = omega arith; ends = refl; so-many = omega arith }

@@ -8,7 +8,7 @@ use borrow.Author.Tests.{ne-eqb}
 use Rattle.cells.specs.Cells.{cellAt}
 use lib.ListN.{length, getD}
 use Rattle.ir.specs.declared.«Type».{«Type» as IrType}
-use Rattle.ir.specs.Function.{typeAt, typesAt, varsAt, lineAt, linesAt, argumentsAt, behind}
+use Rattle.ir.specs.Function.{typeAt, typesAt, varsAt, operandsAt, lineAt, linesAt, argumentsAt, behind}
 
 pub types-length : (s : List ℕ) (n k : ℕ) → length (typesAt s n k) ≡ n
 unfolding typesAt
@@ -19,6 +19,11 @@ pub vars-length : (s : List ℕ) (n k : ℕ) → length (varsAt s n k) ≡ n
 unfolding varsAt
 vars-length s zero k = refl
 vars-length s (suc n) k = ap suc (vars-length s n (k + 3))
+
+pub operands-length : (s : List ℕ) (n k : ℕ) → length (operandsAt s n k) ≡ n
+unfolding operandsAt
+operands-length s zero k = refl
+operands-length s (suc n) k = ap suc (operands-length s n (k + 4))
 
 pub type-there : (s : List ℕ) (n k i : ℕ) (o : IrType) → i < n → getD (typesAt s n k) i o ≡ typeAt s (k + 2 * i)
 unfolding typesAt

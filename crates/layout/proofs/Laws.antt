@@ -343,20 +343,8 @@ instrs-within s (suc n) c h l =
 
 -- ---- the sheet
 
-pub record Right (s : List ℕ) (e : Cursor) : Type 0 where
-  pub header : 6 ≤ cells s
-  pub vars : cellAt s 0 ≤ 256
-  pub params : cellAt s 1 ≤ 256
-  pub labels : cellAt s 2 ≤ 256
-  pub returned : returnCheck s (cursor 3) ≡ Checked.Behind (cursor 5)
-  pub instrs : cellAt s 5 ≤ 4096
-  pub types : typesCheck s (cellAt s 0) 0 (cursor 6) ≡ Checked.Behind (cursor (paramsFrom s))
-  pub parameters : varsCheck s (cellAt s 1) (cursor (paramsFrom s)) ≡ Checked.Behind (cursor (bodyFrom s))
-  pub body : instrsCheck s (cellAt s 5) (cursor (bodyFrom s)) ≡ Checked.Behind e
-  pub whole : e .at * 8 ≡ length s
-
--- what stands before the instructions, and what follows it
-pub record RightHead (s : List ℕ) (next : Checked) (e : Cursor) : Type 0 where
+-- what stands before the instructions
+pub record RightHead (s : List ℕ) : Type 0 where
   pub header : 6 ≤ cells s
   pub vars : cellAt s 0 ≤ 256
   pub params : cellAt s 1 ≤ 256
@@ -366,13 +354,18 @@ pub record RightHead (s : List ℕ) (next : Checked) (e : Cursor) : Type 0 where
   pub types : typesCheck s (cellAt s 0) 0 (cursor 6) ≡ Checked.Behind (cursor (paramsFrom s))
   pub parameters : varsCheck s (cellAt s 1) (cursor (paramsFrom s)) ≡ Checked.Behind (cursor (bodyFrom s))
   pub within : bodyFrom s ≤ cells s
-  pub rest : next ≡ Checked.Behind e
 
+pub record Right (s : List ℕ) (e : Cursor) : Type 0 where
+  pub head : RightHead s
+  pub body : instrsCheck s (cellAt s 5) (cursor (bodyFrom s)) ≡ Checked.Behind e
+  pub whole : e .at * 8 ≡ length s
+
+-- .. and what follows it
 pub head-passed : (s : List ℕ) (g : ℕ → Cursor → Checked) {e : Cursor} →
     bindLimited (limited s (cursor 0) 256) (λ vars c1. bindLimited (limited s c1 256) (λ params c2. bindLimited (limited s c2 256) (λ labels c3.
     bindChecked (returnCheck s c3) (λ c4. bindLimited (limited s c4 4096) (λ instrs c5.
     bindChecked (typesCheck s vars 0 c5) (λ c6. bindChecked (varsCheck s params c6) (λ c7. g instrs c7))))))) ≡ Checked.Behind e →
-    RightHead s (g (cellAt s 5) (cursor (bodyFrom s))) e
+    RightHead s × (g (cellAt s 5) (cursor (bodyFrom s)) ≡ Checked.Behind e)
 head-passed s g h =
     let a = limited-passed s (cursor 0) 256 _ h in
     let b = limited-passed s (cursor 1) 256 _ (a .1) in
@@ -382,36 +375,30 @@ head-passed s g h =
     let t = passed-at (typesCheck s (cellAt s 0) 0 (cursor 6)) _ (paramsFrom s) (λ m e. types-run s (cellAt s 0) 0 (cursor 6) e .ends) (i .1) in
     let p = cursor (paramsFrom s) in
     let v = passed-at (varsCheck s (cellAt s 1) p) _ (bodyFrom s) (λ m e. vars-run s (cellAt s 1) p e .ends) (t .1) in
-    let l = types-run s (cellAt s 0) 0 (cursor 6) (t .0) .within (i .0 .there) in
-    record {
-      header = i .0 .there;
-      vars = a .0 .most;
-      params = b .0 .most;
-      labels = c .0 .most;
-      returned = r .0;
-      instrs = i .0 .most;
-      types = t .0;
-      parameters = v .0;
-      within = vars-run s (cellAt s 1) p (v .0) .within l;
-      rest = v .1;
-    }
+    let l = types-run s (cellAt s 0) 0 (cursor 6) (t .0) .within (i .0 .there) in (
+      record {
+        header = i .0 .there;
+        vars = a .0 .most;
+        params = b .0 .most;
+        labels = c .0 .most;
+        returned = r .0;
+        instrs = i .0 .most;
+        types = t .0;
+        parameters = v .0;
+        within = vars-run s (cellAt s 1) p (v .0) .within l;
+      },
+      v .1,
+    )
 
 pub sheet-right : (s : List ℕ) {e : Cursor} → sheetCheck s ≡ Checked.Behind e → Right s e
 unfolding sheetCheck restCheck listsCheck
 sheet-right s {e} h =
     let r = head-passed s (λ instrs c. bindChecked (instrsCheck s instrs c) (λ end. endCheck 2 s end)) h in
-    let n = checked-passed (instrsCheck s (cellAt s 5) (cursor (bodyFrom s))) _ (r .rest) in
+    let n = checked-passed (instrsCheck s (cellAt s 5) (cursor (bodyFrom s))) _ (r .1) in
     let z = at-end 2 s (n .0) (n .2) in
-    let w = instrs-within s (cellAt s 5) (cursor (bodyFrom s)) (n .1) (r .within) in
+    let w = instrs-within s (cellAt s 5) (cursor (bodyFrom s)) (n .1) (r .0 .within) in
     record {
-      header = r .header;
-      vars = r .vars;
-      params = r .params;
-      labels = r .labels;
-      returned = r .returned;
-      instrs = r .instrs;
-      types = r .types;
-      parameters = r .parameters;
+      head = r .0;
       body = n .1 ∙ ap (λ (k : ℕ). Checked.Behind (cursor k)) (sym (z .0));
       whole = omega arith;
     }

@@ -10,7 +10,7 @@ use Rattle.cells.specs.Cells.{cells, cellAt}
 use Rattle.cells.specs.declared.Cursor.{Cursor}
 use Rattle.layout.specs.declared.Checked.{Checked}
 use Rattle.layout.specs.Layout.{cursor, instrsCheck, sheetCheck, Laid}
-use Rattle.layout.proofs.Laws.{Right, sheet-right, types-run, vars-run, instr-right, instrs-more}
+use Rattle.layout.proofs.Laws.{Right, sheet-right, types-run, instr-right, instrs-more}
 use Rattle.ir.specs.Function.{argumentsAt, behind, paramsFrom, bodyFrom}
 
 -- ---- the sheet
@@ -23,19 +23,19 @@ module _ {s : List ℕ} (r : Laid s) where
   right = sheet-right s (r .is)
 
   pub has-header : 6 ≤ cells s
-  has-header = right .header
+  has-header = right .head .header
 
   pub has-types : paramsFrom s ≤ cells s
-  has-types = types-run s (cellAt s 0) 0 (cursor 6) (right .types) .within has-header
+  has-types = types-run s (cellAt s 0) 0 (cursor 6) (right .head .types) .within has-header
 
   pub has-params : bodyFrom s ≤ cells s
-  has-params = vars-run s (cellAt s 1) (cursor (paramsFrom s)) (right .parameters) .within has-types
+  has-params = right .head .within
 
   pub has-vars : cellAt s 0 ≤ 256
-  has-vars = right .vars
+  has-vars = right .head .vars
 
   pub has-few : cellAt s 5 ≤ 4096
-  has-few = right .instrs
+  has-few = right .head .instrs
 
 -- ---- n instructions from cell k on
 

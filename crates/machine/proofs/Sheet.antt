@@ -63,7 +63,7 @@ module _ (tables sheet : List ℕ) (m : ℕ) (is : List Instruction) (e : lowere
   -- the total of the variables' sizes is within its limit
   pub small : lastOffset 0 (functionOf sheet .vars) ≤ 1048576
   unfolding functionOf
-  small = types-total sheet _ 0 (cursor 6) (sheet-right sheet (parts .2 .1) .types) (lit≤ tt)
+  small = types-total sheet _ 0 (cursor 6) (sheet-right sheet (parts .2 .1) .head .types) (lit≤ tt)
 
   laid : Laid sheet
   laid = laid-from (parts .2 .1)

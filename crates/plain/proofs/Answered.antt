@@ -98,7 +98,7 @@ module _ (t s : List ℕ) where
 
     few-labels : functionOf s .labels ≤ 256
     unfolding functionOf
-    few-labels = sheet-right s b .labels
+    few-labels = sheet-right s b .head .labels
 
     -- a condition that is broken
     broken : (k : ℕ) → isPlainAt (functionOf s) k ≡ false → isFault t s k ≡ true
