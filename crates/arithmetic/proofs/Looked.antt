@@ -1,6 +1,6 @@
 -- The list of `generate_unary`, made of what its look-ups find.
 use mathlib.Core.Path.{_≡_, refl}
-use mathlib.Core.List.{List, [], _∷_}
+use mathlib.Core.List.{[], _∷_}
 use mathlib.Core.Bool.{Bool, true, false, cond}
 use Prim.Native.Nat.{ℕ}
 use native.Mathlib.Omega.{arith}
@@ -9,7 +9,6 @@ use Rattle.ir.specs.declared.Operand.{Operand as IrOp}
 use Rattle.ir.specs.declared.UnaryOp.{UnaryOp as IrUnary}
 use Rattle.ir.specs.Types.{refused, isFloat}
 use Rattle.x86.specs.declared.enums.Size.{Size}
-use Rattle.x86.specs.declared.enums.Instruction.{Instruction}
 use Rattle.x86.specs.Registers.{RAX}
 use Rattle.codegen.specs.Context.{Context}
 use Rattle.codegen.specs.Utils.{varSize, convertVar}

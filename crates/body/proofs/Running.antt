@@ -126,15 +126,15 @@ counted-refused (types.refused m) e = let z = e in cc
 -- The layout of an instruction is right.
 module _ (s : List ℕ) (c : Cursor) {d : Cursor} (e : instrCheck s c ≡ Checked.Behind d) where
   pub right-there : c .at + 1 ≤ cells s
-  right-there = omega (arith, instr-right s c e .body .there)
+  right-there = omega (arith, instr-right s c e .there)
 
   pub right-behind : behind s (c .at) ≤ cells s
-  right-behind = let b = instr-right s c e .body in omega (arith, b .ends, b .within)
+  right-behind = let b = instr-right s c e in omega (arith, b .ends, b .within)
 
   -- A call has few arguments.
   pub right-few : argumentsAt s (c .at) ≤ 64
   unfolding argumentsAt
-  right-few = go (eqb (cellAt s (c .at)) 5) (λ t. instr-right s c e .body .call (eqb-true _ _ t) .count)
+  right-few = go (eqb (cellAt s (c .at)) 5) (λ t. instr-right s c e .few (eqb-true _ _ t))
     where
       go : (t : Bool) → (t ≡ true → cellAt s (c .at + 6) ≤ 64) → cond t (cellAt s (c .at + 6)) 0 ≤ 64
       go true f = f refl
@@ -204,7 +204,7 @@ module _ {ctx : Context} {labels : ℕ} {ret : IrType} {s : List ℕ} {whole : O
 
     module _ {d : Cursor} (e : instrCheck s here ≡ Checked.Behind d) where
       left-is : linesAt s left (here .at) ≡ (lineAt s (here .at) ∷ linesAt s (left - 1) (d .at))
-      left-is = rw (instr-right s here e .body .ends) (lines-more s left (here .at) h)
+      left-is = rw (instr-right s here e .ends) (lines-more s left (here .at) h)
 
       left-in-turn : withoutPlace (generateBody ctx labels ret i (linesAt s left (here .at))) ≡ then line (withoutPlace (later d))
       left-in-turn = rw (left-is, add-one i) (in-turn ctx labels ret i (lineAt s (here .at)) (linesAt s (left - 1) (d .at)))

@@ -29,7 +29,7 @@ use Rattle.codegen.specs.Context.{Context}
 use Rattle.codegen.specs.Utils.{varSize, convertVar, convertOperand, loadOperand}
 use Rattle.codegen.specs.Instructions.{move, Source, source, widened, castOperand, floating, isSpent, wordsTaken, floatsTaken, excess, registerOf, loadArguments, pushArguments, callArea, moveStack, storeResult, generateCall}
 use Rattle.codegen.specs.Arithmetic.{dividing, parity, ordered, unaryRecords}
-use Rattle.codegen.specs.Frame.{registersOf, storeOf, storeParams, copyParams, isFloatParam, funcPrologue}
+use Rattle.codegen.specs.Frame.{registersOf, storeParams, copyParams, isFloatParam, funcPrologue}
 use Rattle.codegen.specs.Generation.{generateInstr, isRet, endsInRet}
 use Rattle.codegen.specs.Bounds.{mostRecords, mostInPrologue}
 use Rattle.codegen.proofs.Results.{Yields, yields, any, bind, weaken, choose, implies, values}

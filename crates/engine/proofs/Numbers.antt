@@ -5,7 +5,6 @@ use mathlib.Core.Logic.{_↔_}
 use mathlib.Core.Option.{none, some}
 use mathlib.Core.List.{List}
 use native.Mathlib.Omega.{arith}
-use lib.ListN.{length}
 use Rattle.x86.specs.declared.enums.Instruction.{Instruction}
 use Rattle.codegen.specs.Generation.{Outcome, accepted, refused}
 use Rattle.machine.specs.Plain.{Plain, firstFault}

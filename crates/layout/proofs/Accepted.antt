@@ -4,12 +4,13 @@ use mathlib.Core.Path.{_≡_, refl, sym, ap, _∙_}
 use mathlib.Core.Bool.{Bool, true, false, cond, _&&_, _||_}
 use mathlib.Core.List.{List}
 use native.Mathlib.Omega.{arith}
-use borrow.Author.Tests.{ltb-true, ltb-false, lt-ltb, le-ltb, le-leb, lt-leb, ne-eqb, eqb-false}
+use borrow.Author.Tests.{ltb-true, ltb-false, lt-ltb, le-ltb, le-leb, lt-leb, ne-eqb}
 use lib.Dec.{ltb, leb, eqb}
 use Rattle.cells.specs.Cells.{cells, cellAt, largest, readCell, readWithin, bindCell}
 use Rattle.cells.specs.declared.Cursor.{Cursor}
 use Rattle.cells.specs.declared.Cell.{Cell}
 use Rattle.ir.specs.Types.{noArray}
+use Rattle.ir.specs.Function.{argumentsAt, behind}
 use Rattle.layout.specs.declared.Checked.{Checked}
 use Rattle.layout.specs.Layout.{bindChecked, cursor, accepts, countCheck, zerosCheck, fieldsCheck, typeCheck, varCheck, firstField, flagField, operandCheck, operationMost, hasDest, hasLeft, destCheck, sideCheck, bodyCheck, instrCheck}
 use Rattle.layout.specs.Accepts.{acceptsInstr, HasKind}
@@ -198,10 +199,10 @@ accepts-other {s} {k} {n} h l =
 module _ (s : List ℕ) (c : Cursor) where
   -- a right instruction that is no call: where it ends, and that its cells are there
   no-call : {d : Cursor} → eqb (cellAt s (c .at)) 5 ≡ false → instrCheck s c ≡ Checked.Behind d → (d .at ≡ c .at + 13) × (c .at + 13 ≤ cells s)
+  unfolding behind argumentsAt
   no-call p e =
-      let r = instr-right s c e .body in
-      let z = side-right s _ (cursor (c .at + 9)) (r .sides (eqb-false _ _ p) .right) in
-      (omega arith, r .there)
+      let r = instr-right s c e in
+      (rw p at (r .ends) ∙ omega arith, r .there)
 
   -- the same of one that is accepted
   pub accepted-instr : acceptsInstr s (c .at) ≡ true → (instrCheck s c ≡ Checked.Behind (cursor (c .at + 13))) × (c .at + 13 ≤ cells s)

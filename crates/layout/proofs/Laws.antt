@@ -1,12 +1,11 @@
 -- What a layout that is right tells: where its parts end, and what their cells hold.
-use Prim.Native.Nat.{ℕ, zero, suc, _+_, _*_, _≤_, _<_}
+use Prim.Native.Nat.{ℕ, zero, suc, _+_, _*_, _≤_}
 use mathlib.Core.Path.{_≡_, refl, sym, ap, _∙_}
-use mathlib.Core.Logic.{_⊎_, inl, inr, ⊎-elim}
 use mathlib.Core.Bool.{Bool, true, false, cond, _||_}
 use mathlib.Core.List.{List}
 use native.Mathlib.Omega.{arith}
-use native.Mathlib.Nat.{mul-suc, eq-or-lt-of-le}
-use borrow.Author.Tests.{ltb-false, eqb-true, eqb-false}
+use native.Mathlib.Nat.{mul-suc}
+use borrow.Author.Tests.{ltb-false, eqb-false}
 use lib.ListN.{length}
 use lib.Dec.{ltb, eqb}
 use Rattle.cells.specs.Cells.{cells, cellAt, largest, readWithin, bindCell}
@@ -14,157 +13,106 @@ use Rattle.cells.specs.declared.Cursor.{Cursor}
 use Rattle.ir.specs.Types.{noArray, offsetBehind, lastOffset}
 use Rattle.ir.specs.Function.{typeAt, typesAt, argumentsAt, behind, paramsFrom, bodyFrom}
 use Rattle.layout.specs.declared.Checked.{Checked}
-use Rattle.layout.specs.Layout.{bindLimited, bindChecked, endCheck, cursor, limited, floatsCheck, tablesCheck, countCheck, zerosCheck, fieldsCheck, typeCheck, returnCheck, varCheck, firstField, flagField, operandCheck, operandsCheck, operationMost, hasDest, hasLeft, destCheck, sideCheck, callCheck, bodyCheck, instrCheck, typesCheck, varsCheck, instrsCheck, listsCheck, restCheck, sheetCheck}
-use Rattle.layout.proofs.Passed.{apart, place, kept, checked-passed, passed-at, cell-passed, Held, within-passed, limited-passed, at-end}
+use Rattle.layout.specs.Layout.{bindLimited, bindChecked, endCheck, cursor, limited, countCheck, zerosCheck, fieldsCheck, typeCheck, returnCheck, varCheck, firstField, flagField, operandCheck, operandsCheck, operationMost, hasDest, hasLeft, destCheck, sideCheck, callCheck, bodyCheck, instrCheck, typesCheck, varsCheck, instrsCheck, listsCheck, restCheck, sheetCheck}
+use Rattle.layout.proofs.Passed.{place, kept, checked-passed, passed-at, cell-passed, within-passed, limited-passed, at-end}
 
--- ---- types, variables, operands, from cell k on
+-- ---- types, variables, operands
 
--- the count of a type
-abbrev pub RightCount : ℕ → Type 0
-RightCount n = (n ≡ noArray) ⊎ (n ≤ 1048576)
+-- from c to d there are so many cells
+abbrev pub Spans : List ℕ → ℕ → Cursor → Cursor → Type 0
+Spans s n c d = (d .at ≡ c .at + n) × (c .at + n ≤ cells s)
 
-count-right : (s : List ℕ) (c : Cursor) {d : Cursor} → countCheck s c ≡ Checked.Behind d → (d .at ≡ c .at + 1) × (c .at < cells s) × RightCount (cellAt s (c .at))
+count-right : (s : List ℕ) (c : Cursor) {d : Cursor} → countCheck s c ≡ Checked.Behind d → Spans s 1 c d
 unfolding countCheck
 count-right s c {d} e =
     let p = cell-passed 2 s c _ e in
-    let q = go (eqb (cellAt s (c .at)) noArray) refl (p .1) in
-    (q .0, p .0, q .1)
+    (go (eqb (cellAt s (c .at)) noArray) (p .1), omega (arith, p .0))
   where
-    go : (b : Bool) → eqb (cellAt s (c .at)) noArray ≡ b →
-        cond b (Checked.Behind (cursor (c .at + 1))) (cond (ltb largest (cellAt s (c .at))) (Checked.Refused 2 (c .at))
+    go : (b : Bool) → cond b (Checked.Behind (cursor (c .at + 1))) (cond (ltb largest (cellAt s (c .at))) (Checked.Refused 2 (c .at))
         (cond (ltb 1048576 (cellAt s (c .at))) (Checked.Refused 3 (c .at)) (Checked.Behind (cursor (c .at + 1))))) ≡ Checked.Behind d →
-        (d .at ≡ c .at + 1) × RightCount (cellAt s (c .at))
-    go true p e = (place e, inl (eqb-true _ _ p))
-    go false p e =
+        d .at ≡ c .at + 1
+    go true e = place e
+    go false e =
         let l = kept (ltb largest (cellAt s (c .at))) 2 (c .at) _ e in
         let q = kept (ltb 1048576 (cellAt s (c .at))) 3 (c .at) _ (l .1) in
-        (place (q .1), inr (ltb-false _ _ (q .0)))
+        place (q .1)
 
-pub record RightType (s : List ℕ) (k : ℕ) : Type 0 where
-  pub there : k + 2 ≤ cells s
-  pub code : cellAt s k ≤ 12
-  pub count : RightCount (cellAt s (k + 1))
-
-pub type-right : (s : List ℕ) (c : Cursor) {d : Cursor} → typeCheck s c ≡ Checked.Behind d →
-    (d .at ≡ c .at + 2) × (1 ≤ cellAt s (c .at)) × RightType s (c .at)
+pub type-right : (s : List ℕ) (c : Cursor) {d : Cursor} → typeCheck s c ≡ Checked.Behind d → Spans s 2 c d
 unfolding typeCheck
 type-right s c e =
     let p = within-passed 2 s c 1 12 _ e in
     let q = count-right s (cursor (c .at + 1)) (p .1) in
-    (omega arith, p .0 .least, record { there = omega arith; code = p .0 .most; count = q .2 })
+    (omega arith, omega arith)
 
 -- none is code 0 and no array
-pub return-right : (s : List ℕ) (c : Cursor) {d : Cursor} → returnCheck s c ≡ Checked.Behind d → (d .at ≡ c .at + 2) × RightType s (c .at)
+pub return-right : (s : List ℕ) (c : Cursor) {d : Cursor} → returnCheck s c ≡ Checked.Behind d → Spans s 2 c d
 unfolding returnCheck
 return-right s c {d} e =
     let p = within-passed 2 s c 0 12 _ e in
-    go (p .0) (eqb (cellAt s (c .at)) 0) (p .1)
+    go (eqb (cellAt s (c .at)) 0) (p .1)
   where
-    go : Held s (c .at) 0 12 → (b : Bool) →
+    go : (b : Bool) →
         cond b (bindCell (Checked.Refused 2) (readWithin s (cursor (c .at + 1)) noArray noArray) (λ count c2. Checked.Behind c2))
-        (countCheck s (cursor (c .at + 1))) ≡ Checked.Behind d → (d .at ≡ c .at + 2) × RightType s (c .at)
-    go h true e =
+        (countCheck s (cursor (c .at + 1))) ≡ Checked.Behind d → Spans s 2 c d
+    go true e =
         let q = within-passed 2 s (cursor (c .at + 1)) noArray noArray _ e in
         let r = place (q .1) in
-        (omega arith, record { there = omega arith; code = h .most; count = inl (omega arith) })
-    go h false e =
+        (omega arith, omega (arith, q .0 .there))
+    go false e =
         let q = count-right s (cursor (c .at + 1)) e in
-        (omega arith, record { there = omega arith; code = h .most; count = q .2 })
+        (omega arith, omega arith)
 
-pub record RightVar (s : List ℕ) (k : ℕ) : Type 0 where
-  pub there : k + 3 ≤ cells s
-  pub id : cellAt s k ≤ largest
-  pub least : 1 ≤ cellAt s (k + 1)
-  pub ty : RightType s (k + 1)
-
-pub var-right : (s : List ℕ) (c : Cursor) {d : Cursor} → varCheck s c ≡ Checked.Behind d → (d .at ≡ c .at + 3) × RightVar s (c .at)
+pub var-right : (s : List ℕ) (c : Cursor) {d : Cursor} → varCheck s c ≡ Checked.Behind d → Spans s 3 c d
 unfolding varCheck
 var-right s c e =
     let p = within-passed 2 s c 0 largest _ e in
     let q = type-right s (cursor (c .at + 1)) (p .1) in
-    (omega arith, record { there = omega (arith, q .2 .there); id = p .0 .most; least = q .1; ty = q .2 })
+    (omega arith, omega arith)
 
--- the four cells of an operand: a variable, or three numbers within their bounds
-pub record RightOperand (s : List ℕ) (k : ℕ) : Type 0 where
-  pub there : k + 4 ≤ cells s
-  pub kind : cellAt s k ≤ 6
-  pub var : (eqb (cellAt s k) 0 || eqb (cellAt s k) 4) ≡ true → RightVar s (k + 1)
-  pub fields : (eqb (cellAt s k) 0 || eqb (cellAt s k) 4) ≡ false →
-      (cellAt s (k + 1) ≤ firstField (cellAt s k)) × (cellAt s (k + 2) ≤ flagField (cellAt s k)) × (cellAt s (k + 3) ≤ flagField (cellAt s k))
-
-fields-right : (s : List ℕ) (k x y z : ℕ) {d : Cursor} → fieldsCheck s (cursor (k + 1)) x y z ≡ Checked.Behind d →
-    (d .at ≡ k + 4) × (k + 4 ≤ cells s) × ((cellAt s (k + 1) ≤ x) × (cellAt s (k + 2) ≤ y) × (cellAt s (k + 3) ≤ z))
+fields-right : (s : List ℕ) (c : Cursor) (x y z : ℕ) {d : Cursor} → fieldsCheck s c x y z ≡ Checked.Behind d → Spans s 3 c d
 unfolding fieldsCheck
-fields-right s k x y z {d} e =
-    let p = within-passed 2 s (cursor (k + 1)) 0 x _ e in
-    let q = within-passed 2 s (cursor (k + 1 + 1)) 0 y _ (p .1) in
-    let r = within-passed 2 s (cursor (k + 1 + 1 + 1)) 0 z _ (q .1) in
+fields-right s c x y z e =
+    let p = within-passed 2 s c 0 x _ e in
+    let q = within-passed 2 s (cursor (c .at + 1)) 0 y _ (p .1) in
+    let r = within-passed 2 s (cursor (c .at + 1 + 1)) 0 z _ (q .1) in
     let b = place (r .1) in
-    let l : k + 1 + 1 ≡ k + 2 = omega arith in
-    let m : k + 1 + 1 + 1 ≡ k + 3 = omega arith in
-    (omega arith, omega arith, (p .0 .most, rw l at (q .0 .most), rw m at (r .0 .most)))
+    (omega arith, omega (arith, r .0 .there))
 
-pub operand-right : (s : List ℕ) (c : Cursor) {d : Cursor} → operandCheck s c ≡ Checked.Behind d → (d .at ≡ c .at + 4) × RightOperand s (c .at)
+-- a variable, or three numbers behind the kind
+pub operand-right : (s : List ℕ) (c : Cursor) {d : Cursor} → operandCheck s c ≡ Checked.Behind d → Spans s 4 c d
 unfolding operandCheck
-operand-right s c {d} e =
-    let p = within-passed 2 s c 0 6 _ e in
-    go (eqb n 0 || eqb n 4) refl (p .0 .most) (p .1)
+operand-right s c {d} e = go (eqb n 0 || eqb n 4) (within-passed 2 s c 0 6 _ e .1)
   where
     n : ℕ
     n = cellAt s (c .at)
 
-    go : (b : Bool) → (eqb n 0 || eqb n 4) ≡ b → n ≤ 6 →
-        cond b (varCheck s (cursor (c .at + 1))) (fieldsCheck s (cursor (c .at + 1)) (firstField n) (flagField n) (flagField n)) ≡ Checked.Behind d →
-        (d .at ≡ c .at + 4) × RightOperand s (c .at)
-    go true h m e =
+    go : (b : Bool) → cond b (varCheck s (cursor (c .at + 1))) (fieldsCheck s (cursor (c .at + 1)) (firstField n) (flagField n) (flagField n)) ≡ Checked.Behind d →
+        Spans s 4 c d
+    go true e =
         let p = var-right s (cursor (c .at + 1)) e in
-        (omega arith, record { there = omega (arith, p .1 .there); kind = m; var = λ _. p .1; fields = λ f. apart (sym h ∙ f) })
-    go false h m e =
-        let p = fields-right s (c .at) (firstField n) (flagField n) (flagField n) e in
-        (p .0, record { there = p .1; kind = m; var = λ t. apart (sym t ∙ h); fields = λ _. p .2 })
-
--- the flags of an Int, and a Bool, are 0 or 1
-pub int-flags : {s : List ℕ} {k : ℕ} → RightOperand s k → cellAt s k ≡ 1 → (cellAt s (k + 2) ≤ 1) × (cellAt s (k + 3) ≤ 1)
-int-flags r e =
-    let f = r .fields (rw e) in
-    (rw e at (f .1), rw e at (f .2))
-
-pub bool-flag : {s : List ℕ} {k : ℕ} → RightOperand s k → cellAt s k ≡ 3 → cellAt s (k + 1) ≤ 1
-bool-flag r e =
-    let f = r .fields (rw e) in
-    rw e at (f .0)
+        (omega arith, omega arith)
+    go false e =
+        let p = fields-right s (cursor (c .at + 1)) (firstField n) (flagField n) (flagField n) e in
+        (omega arith, omega arith)
 
 -- ---- lists of parts that have one width
 
 module _ (s : List ℕ) (step : Cursor → Checked) (w : ℕ) where
-  -- n parts from c to d, each of them right
+  -- n parts from c to d
   pub record Runs (n : ℕ) (c d : Cursor) : Type 0 where
     pub ends : d .at ≡ c .at + w * n
     pub within : c .at ≤ cells s → d .at ≤ cells s
-    pub each : (k : ℕ) → k < n → step (cursor (c .at + w * k)) ≡ Checked.Behind (cursor (c .at + w * k + w))
 
   runs-none : {c d : Cursor} → Checked.Behind c ≡ Checked.Behind d → Runs 0 c d
   runs-none e =
       let l = place e in
-      record { ends = omega arith; within = λ h. omega arith; each = λ k h. absurd (omega arith) }
+      record { ends = omega arith; within = λ h. omega arith }
 
-  module _ (wide : (c d : Cursor) → step c ≡ Checked.Behind d → (d .at ≡ c .at + w) × (d .at ≤ cells s)) where
+  module _ (wide : (c d : Cursor) → step c ≡ Checked.Behind d → Spans s w c d) where
     runs-more : (n : ℕ) {c m d : Cursor} → step c ≡ Checked.Behind m → Runs n m d → Runs (suc n) c d
     runs-more n {c} {m} {d} e r =
         let p = wide c m e in
-        record {
-          ends = omega (arith, mul-suc w n, r .ends);
-          within = λ h. r .within (p .1);
-          each = each;
-        }
-      where
-        each : (k : ℕ) → k < suc n → step (cursor (c .at + w * k)) ≡ Checked.Behind (cursor (c .at + w * k + w))
-        each zero h =
-            let z : c .at + w * 0 ≡ c .at = omega arith in
-            rw z (e ∙ ap (λ (x : ℕ). Checked.Behind (cursor x)) (wide c m e .0))
-        each (suc k) h =
-            let z : c .at + w * suc k ≡ m .at + w * k = omega (arith, mul-suc w k, wide c m e .0) in
-            rw z (r .each k (omega arith))
+        record { ends = omega (arith, mul-suc w n, r .ends); within = λ h. r .within (omega arith) }
 
     runs : (rep : ℕ → Cursor → Checked) → ((c : Cursor) → rep 0 c ≡ Checked.Behind c) → ((n : ℕ) (c : Cursor) → rep (suc n) c ≡ bindChecked (step c) (rep n)) →
         (n : ℕ) (c : Cursor) {d : Cursor} → rep n c ≡ Checked.Behind d → Runs n c d
@@ -184,16 +132,12 @@ zeros-right s (suc n) c e =
 pub operands-run : (s : List ℕ) (n : ℕ) (c : Cursor) {d : Cursor} → operandsCheck s n c ≡ Checked.Behind d → Runs s (operandCheck s) 4 n c d
 unfolding operandsCheck
 operands-run s =
-    runs s (operandCheck s) 4
-    (λ c d e. let p = operand-right s c e in (p .0, omega (arith, p .1 .there)))
-    (operandsCheck s) (λ c. refl) (λ n c. refl)
+    runs s (operandCheck s) 4 (λ c d e. operand-right s c e) (operandsCheck s) (λ c. refl) (λ n c. refl)
 
 pub vars-run : (s : List ℕ) (n : ℕ) (c : Cursor) {d : Cursor} → varsCheck s n c ≡ Checked.Behind d → Runs s (varCheck s) 3 n c d
 unfolding varsCheck
 vars-run s =
-    runs s (varCheck s) 3
-    (λ c d e. let p = var-right s c e in (p .0, omega (arith, p .1 .there)))
-    (varsCheck s) (λ c. refl) (λ n c. refl)
+    runs s (varCheck s) 3 (λ c d e. var-right s c e) (varsCheck s) (λ c. refl) (λ n c. refl)
 
 -- one type, whose offset the limit allows, and the types behind it
 types-more : (s : List ℕ) (n end : ℕ) (c : Cursor) {d : Cursor} → typesCheck s (suc n) end c ≡ Checked.Behind d →
@@ -210,9 +154,7 @@ unfolding typesCheck
 types-run s zero end c e = runs-none s (typeCheck s) 2 e
 types-run s (suc n) end c e =
     let p = types-more s n end c e in
-    runs-more s (typeCheck s) 2
-    (λ c d e. let p = type-right s c e in (p .0, omega (arith, p .2 .there)))
-    n (p .1) (types-run s n (offsetBehind end (typeAt s (c .at))) (p .0) (p .3))
+    runs-more s (typeCheck s) 2 (λ c d e. type-right s c e) n (p .1) (types-run s n (offsetBehind end (typeAt s (c .at))) (p .0) (p .3))
 
 pub types-total : (s : List ℕ) (n end : ℕ) (c : Cursor) {d : Cursor} → typesCheck s n end c ≡ Checked.Behind d → end ≤ 1048576 →
     lastOffset end (typesAt s n (c .at)) ≤ 1048576
@@ -227,26 +169,17 @@ types-total s (suc n) end c e h =
 
 pub dest-right : (s : List ℕ) (has : Bool) (c : Cursor) {d : Cursor} → destCheck s has c ≡ Checked.Behind d → (d .at ≡ c .at + 3) × (c .at ≤ cells s → d .at ≤ cells s)
 unfolding destCheck
-dest-right s true c e = let p = var-right s c e in (p .0, λ h. omega (arith, p .1 .there))
+dest-right s true c e = let p = var-right s c e in (p .0, λ h. omega arith)
 dest-right s false c e = zeros-right s 3 c e
 
 pub side-right : (s : List ℕ) (has : Bool) (c : Cursor) {d : Cursor} → sideCheck s has c ≡ Checked.Behind d → (d .at ≡ c .at + 4) × (c .at ≤ cells s → d .at ≤ cells s)
 unfolding sideCheck
-side-right s true c e = let p = operand-right s c e in (p .0, λ h. omega (arith, p .1 .there))
+side-right s true c e = let p = operand-right s c e in (p .0, λ h. omega arith)
 side-right s false c e = zeros-right s 4 c e
 
 -- a call's own cells and its arguments
-pub record RightCall (s : List ℕ) (k : ℕ) (d : Cursor) : Type 0 where
-  pub symbol : cellAt s (k + 5) ≤ largest
-  pub count : cellAt s (k + 6) ≤ 64
-  pub args : operandsCheck s (cellAt s (k + 6)) (cursor (k + 13)) ≡ Checked.Behind d
-
--- left and right of any other instruction
-pub record RightSides (s : List ℕ) (k : ℕ) (d : Cursor) : Type 0 where
-  pub left : sideCheck s (hasLeft (cellAt s k)) (cursor (k + 5)) ≡ Checked.Behind (cursor (k + 9))
-  pub right : sideCheck s (eqb (cellAt s k) 2) (cursor (k + 9)) ≡ Checked.Behind d
-
-call-right : (s : List ℕ) (k : ℕ) {d : Cursor} → callCheck s (cursor (k + 5)) ≡ Checked.Behind d → (k + 13 ≤ cells s) × RightCall s k d
+call-right : (s : List ℕ) (k : ℕ) {d : Cursor} → callCheck s (cursor (k + 5)) ≡ Checked.Behind d →
+    (k + 13 ≤ cells s) × (cellAt s (k + 6) ≤ 64) × (operandsCheck s (cellAt s (k + 6)) (cursor (k + 13)) ≡ Checked.Behind d)
 unfolding callCheck
 call-right s k e =
     let p = within-passed 2 s (cursor (k + 5)) 0 largest _ e in
@@ -254,59 +187,41 @@ call-right s k e =
     let q = limited-passed s (cursor (k + 6)) 64 _ (rw six at (p .1)) in
     let r = passed-at (zerosCheck s 6 (cursor (k + 6 + 1))) _ (k + 13) (λ m e. let z = zeros-right s 6 (cursor (k + 6 + 1)) e in omega arith) (q .1) in
     let z = zeros-right s 6 (cursor (k + 6 + 1)) (r .0) in
-    (z .1 (omega arith), record { symbol = p .0 .most; count = q .0 .most; args = r .1 })
+    (z .1 (omega arith), q .0 .most, r .1)
 
+-- left and right of any other instruction
 sides-right : (s : List ℕ) (k : ℕ) {d : Cursor} →
     bindChecked (sideCheck s (hasLeft (cellAt s k)) (cursor (k + 5))) (λ c1. sideCheck s (eqb (cellAt s k) 2) c1) ≡ Checked.Behind d → k + 5 ≤ cells s →
-    (d .at ≡ k + 13) × (k + 13 ≤ cells s) × RightSides s k d
+    (d .at ≡ k + 13) × (k + 13 ≤ cells s)
 sides-right s k e h =
     let has = hasLeft (cellAt s k) in
     let p = passed-at (sideCheck s has (cursor (k + 5))) _ (k + 9) (λ m e. let z = side-right s has (cursor (k + 5)) e in omega arith) e in
     let a = side-right s has (cursor (k + 5)) (p .0) in
     let b = side-right s (eqb (cellAt s k) 2) (cursor (k + 9)) (p .1) in
-    (omega arith, omega (arith, b .1 (a .1 h)), record { left = p .0; right = p .1 })
+    (omega arith, omega (arith, b .1 (a .1 h)))
 
--- left and right of an instruction, with a call's arguments
-pub record RightBody (s : List ℕ) (k : ℕ) (d : Cursor) : Type 0 where
+-- an instruction, with a call's arguments
+pub record RightInstr (s : List ℕ) (k : ℕ) (d : Cursor) : Type 0 where
   pub there : k + 13 ≤ cells s
   pub ends : d .at ≡ behind s k
   pub within : d .at ≤ cells s
-  pub call : cellAt s k ≡ 5 → RightCall s k d
-  pub sides : (cellAt s k ≡ 5 → ⊥) → RightSides s k d
+  pub few : cellAt s k ≡ 5 → cellAt s (k + 6) ≤ 64
 
-body-right : (s : List ℕ) (k : ℕ) {d : Cursor} → bodyCheck s (cellAt s k) (cursor (k + 5)) ≡ Checked.Behind d → k + 5 ≤ cells s → RightBody s k d
+body-right : (s : List ℕ) (k : ℕ) {d : Cursor} → bodyCheck s (cellAt s k) (cursor (k + 5)) ≡ Checked.Behind d → k + 5 ≤ cells s → RightInstr s k d
 unfolding bodyCheck behind argumentsAt
 body-right s k {d} = go (eqb (cellAt s k) 5) refl
   where
     go : (b : Bool) → eqb (cellAt s k) 5 ≡ b →
         cond b (callCheck s (cursor (k + 5))) (bindChecked (sideCheck s (hasLeft (cellAt s k)) (cursor (k + 5)))
         (λ c1. sideCheck s (eqb (cellAt s k) 2) c1)) ≡ Checked.Behind d →
-        k + 5 ≤ cells s → RightBody s k d
+        k + 5 ≤ cells s → RightInstr s k d
     go true p e h =
         let q = call-right s k e in
-        let r = operands-run s (cellAt s (k + 6)) (cursor (k + 13)) (q .1 .args) in
-        record {
-          there = q .0;
-          ends = rw p (r .ends);
-          within = r .within (q .0);
-          call = λ _. q .1;
-          sides = λ f. absurd (f (eqb-true _ _ p));
-        }
+        let r = operands-run s (cellAt s (k + 6)) (cursor (k + 13)) (q .2) in
+        record { there = q .0; ends = rw p (r .ends); within = r .within (q .0); few = λ _. q .1 }
     go false p e h =
         let q = sides-right s k e h in
-        record {
-          there = q .1;
-          ends = rw p (omega arith);
-          within = omega arith;
-          call = λ t. absurd (eqb-false _ _ p t);
-          sides = λ _. q .2;
-        }
-
-pub record RightInstr (s : List ℕ) (k : ℕ) (d : Cursor) : Type 0 where
-  pub kind : cellAt s k ≤ 10
-  pub operation : cellAt s (k + 1) ≤ operationMost (cellAt s k)
-  pub dest : destCheck s (hasDest (cellAt s k) (cellAt s (k + 1))) (cursor (k + 2)) ≡ Checked.Behind (cursor (k + 5))
-  pub body : RightBody s k d
+        record { there = q .1; ends = rw p (omega arith); within = omega arith; few = λ t. absurd (eqb-false _ _ p t) }
 
 pub instr-right : (s : List ℕ) (c : Cursor) {d : Cursor} → instrCheck s c ≡ Checked.Behind d → RightInstr s (c .at) d
 unfolding instrCheck
@@ -320,26 +235,21 @@ instr-right s c e =
     let r = passed-at (destCheck s has (cursor (k + 2))) (λ c3. bodyCheck s n c3) (k + 5)
     (λ m e. let z = dest-right s has (cursor (k + 2)) e in omega arith) (rw two at (q .1)) in
     let z = dest-right s has (cursor (k + 2)) (r .0) in
-    record {
-      kind = p .0 .most;
-      operation = q .0 .most;
-      dest = r .0;
-      body = body-right s k (r .1) (z .1 (omega arith));
-    }
+    body-right s k (r .1) (z .1 (omega arith))
 
 -- the first instruction, and those behind it
 pub instrs-more : (s : List ℕ) (n : ℕ) (c : Cursor) {e : Cursor} → instrsCheck s (suc n) c ≡ Checked.Behind e →
     (instrCheck s c ≡ Checked.Behind (cursor (behind s (c .at)))) × (instrsCheck s n (cursor (behind s (c .at))) ≡ Checked.Behind e)
 unfolding instrsCheck
 instrs-more s n c h =
-    passed-at (instrCheck s c) (λ next. instrsCheck s n next) (behind s (c .at)) (λ m e. instr-right s c e .body .ends) h
+    passed-at (instrCheck s c) (λ next. instrsCheck s n next) (behind s (c .at)) (λ m e. instr-right s c e .ends) h
 
 pub instrs-within : (s : List ℕ) (n : ℕ) (c : Cursor) {e : Cursor} → instrsCheck s n c ≡ Checked.Behind e → c .at ≤ cells s → e .at ≤ cells s
 unfolding instrsCheck
 instrs-within s zero c h l = let p = place h in omega arith
 instrs-within s (suc n) c h l =
     let p = instrs-more s n c h in
-    instrs-within s n (cursor (behind s (c .at))) (p .1) (instr-right s c (p .0) .body .within)
+    instrs-within s n (cursor (behind s (c .at))) (p .1) (instr-right s c (p .0) .within)
 
 -- ---- the sheet
 
@@ -349,10 +259,8 @@ pub record RightHead (s : List ℕ) : Type 0 where
   pub vars : cellAt s 0 ≤ 256
   pub params : cellAt s 1 ≤ 256
   pub labels : cellAt s 2 ≤ 256
-  pub returned : returnCheck s (cursor 3) ≡ Checked.Behind (cursor 5)
   pub instrs : cellAt s 5 ≤ 4096
   pub types : typesCheck s (cellAt s 0) 0 (cursor 6) ≡ Checked.Behind (cursor (paramsFrom s))
-  pub parameters : varsCheck s (cellAt s 1) (cursor (paramsFrom s)) ≡ Checked.Behind (cursor (bodyFrom s))
   pub within : bodyFrom s ≤ cells s
 
 pub record Right (s : List ℕ) (e : Cursor) : Type 0 where
@@ -381,10 +289,8 @@ head-passed s g h =
         vars = a .0 .most;
         params = b .0 .most;
         labels = c .0 .most;
-        returned = r .0;
         instrs = i .0 .most;
         types = t .0;
-        parameters = v .0;
         within = vars-run s (cellAt s 1) p (v .0) .within l;
       },
       v .1,
@@ -401,60 +307,4 @@ sheet-right s {e} h =
       head = r .0;
       body = n .1 ∙ ap (λ (k : ℕ). Checked.Behind (cursor k)) (sym (z .0));
       whole = omega arith;
-    }
-
--- ---- the tables
-
-pub record RightTables (t : List ℕ) : Type 0 where
-  pub header : 1 ≤ cells t
-  pub strings : cellAt t 0 ≤ 256
-  pub few : cells t ≤ 257
-  pub whole : length t ≡ 8 * cells t
-  pub floats : (k : ℕ) → 1 ≤ k → k < cells t → cellAt t k ≤ 1
-
--- floats from cell k to the end, which is cell m
-record RightFloats (t : List ℕ) (n k m : ℕ) : Type 0 where
-  whole : m * 8 ≡ length t
-  few : m ≤ k + n
-  floats : (j : ℕ) → k ≤ j → j < m → cellAt t j ≤ 1
-
-floats-none : (t : List ℕ) (n k : ℕ) → length t ≤ k * 8 → k * 8 ≤ length t → RightFloats t n k k
-floats-none t n k a b = record { whole = omega arith; few = omega arith; floats = λ j p q. absurd (omega arith) }
-
-floats-more : (t : List ℕ) (n k : ℕ) {m : ℕ} → cellAt t k ≤ 1 → RightFloats t n (k + 1) m → RightFloats t (suc n) k m
-floats-more t n k {m} h r =
-    record {
-      whole = r .whole;
-      few = omega (arith, r .few);
-      floats = λ j p q. ⊎-elim (λ e. rw (← e) h) (λ l. r .floats j (omega arith) q) (eq-or-lt-of-le p);
-    }
-
-floats-right : (t : List ℕ) (n : ℕ) (c : Cursor) {d : Cursor} → floatsCheck t n c ≡ Checked.Behind d → c .at * 8 ≤ length t → RightFloats t n (c .at) (d .at)
-unfolding floatsCheck
-floats-right t zero c e h =
-    let p = at-end 1 t c e in
-    rw (p .0) (floats-none t 0 (c .at) (p .1) h)
-floats-right t (suc n) c {d} e h = go (ltb (c .at * 8) (length t)) refl e (λ q. floats-right t n (cursor (c .at + 1)) q)
-  where
-    go : (b : Bool) → ltb (c .at * 8) (length t) ≡ b →
-        cond b (bindCell (Checked.Refused 1) (readWithin t c 0 1) (λ v next. floatsCheck t n next)) (Checked.Behind c) ≡ Checked.Behind d →
-        (floatsCheck t n (cursor (c .at + 1)) ≡ Checked.Behind d → (c .at + 1) * 8 ≤ length t → RightFloats t n (c .at + 1) (d .at)) →
-        RightFloats t (suc n) (c .at) (d .at)
-    go true p e f =
-        let q = within-passed 1 t c 0 1 _ e in
-        floats-more t n (c .at) (q .0 .most) (f (q .1) (omega (arith, q .0 .there)))
-    go false p e f = rw (place e) (floats-none t (suc n) (c .at) (ltb-false _ _ p) h)
-
-pub tables-right : (t : List ℕ) {d : Cursor} → tablesCheck t ≡ Checked.Behind d → RightTables t
-unfolding tablesCheck
-tables-right t {d} e =
-    let p = within-passed 1 t (cursor 0) 0 256 _ e in
-    let r = floats-right t 256 (cursor 1) (p .1) (omega (arith, p .0 .there)) in
-    let l : cells t ≡ d .at = omega (arith, r .whole) in
-    record {
-      header = p .0 .there;
-      strings = p .0 .most;
-      few = omega (arith, r .few);
-      whole = omega (arith, r .whole);
-      floats = λ k a b. r .floats k a (omega arith);
     }

@@ -50,7 +50,7 @@ module _ {s : List ℕ} where
   pub walk-here : (n k : ℕ) → Walk s n k → 0 < n → (k + 13 ≤ cells s) × (behind s k ≤ cells s)
   walk-here zero k w h = absurd (omega arith)
   walk-here (suc n) k w h =
-      let b = instr-right s (cursor k) (instrs-more s n (cursor k) (w .is) .0) .body in
+      let b = instr-right s (cursor k) (instrs-more s n (cursor k) (w .is) .0) in
       (b .there, omega (arith, b .ends, b .within))
 
   -- a call has few arguments
@@ -58,8 +58,8 @@ module _ {s : List ℕ} where
   unfolding argumentsAt
   walk-few zero k w h = absurd (omega arith)
   walk-few (suc n) k w h =
-      let b = instr-right s (cursor k) (instrs-more s n (cursor k) (w .is) .0) .body in
-      go (eqb (cellAt s k) 5) (λ e. b .call (eqb-true _ _ e) .count)
+      let b = instr-right s (cursor k) (instrs-more s n (cursor k) (w .is) .0) in
+      go (eqb (cellAt s k) 5) (λ e. b .few (eqb-true _ _ e))
     where
       go : (t : Bool) → (t ≡ true → cellAt s (k + 6) ≤ 64) → cond t (cellAt s (k + 6)) 0 ≤ 64
       go true f = f refl

@@ -2,8 +2,7 @@
 use Prim.Native.Nat.{ℕ, suc, _+_, _*_, _/_, _%_, _^_, _<_}
 use mathlib.Core.Path.{_≡_, refl, sym, ap, _∙_}
 use mathlib.Core.List.{List, [], _∷_, _++_, map, flatten, append-nil, append-assoc}
-use native.Mathlib.Nat.{add-zero, add-suc, mod-mod, add-mul-div-left, add-mul-mod-self-left}
-use native.Mathlib.Numerals.{add-one}
+use native.Mathlib.Nat.{add-zero, mod-mod, add-mul-div-left, add-mul-mod-self-left}
 use native.Mathlib.Omega.{arith}
 use lib.Dec.{lit<}
 use lib.ListN.{length, length-append, length-map}

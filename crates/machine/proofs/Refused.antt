@@ -9,7 +9,7 @@ use Rattle.x86.specs.declared.enums.Instruction.{Instruction}
 use Rattle.ir.specs.Types as types
 use Rattle.ir.specs.Types.{Result, ok}
 use Rattle.ir.specs.Function.{Function, Line, Tables}
-use Rattle.codegen.specs.Context.{Context, contextOf}
+use Rattle.codegen.specs.Context.{contextOf}
 use Rattle.codegen.specs.Frame.{offsetsFrom, haveWidths, varOffsets, frame, funcPrologue}
 use Rattle.codegen.specs.Generation.{Outcome, accepted, refused, _>>=_, at, generateInstruction, generateBody, withEpilogue, generate}
 use Rattle.machine.specs.Simulation.{contextFor}

@@ -12,7 +12,6 @@ use Rattle.x86.specs.declared.enums.Instruction.{Instruction}
 use Rattle.x86.specs.Records.{listBytes}
 use Rattle.x86.proofs.Lists.{both, none, wrote-length}
 use Rattle.utils.specs.declared.CountResult.{CountResult}
-use Rattle.utils.specs.Answers.{countSays, counted}
 use Rattle.utils.specs.Makes.{listed, after, Makes, Fits, Ready, before, then}
 
 -- what an answer says, by its case
@@ -147,11 +146,3 @@ module _ {writes : Bool} {whole left : Result (List Instruction)} {at k : ℕ} {
 -- what counts asks nothing
 pub counting : {list : Result (List Instruction)} {at n : ℕ} → Ready false list at n
 counting = record { room = λ w. absurd (let z : _≡_ {A = ℕ} 0 1 = cc in omega arith) }
-
--- what was counted is ready to be written where there is room for so many
-pub ready-counted : {list : Result (List Instruction)} {at : ℕ} {old new : List ℕ} {n m : ℕ} → Makes false list at old new (CountResult.Records n) → at + 64 * n ≤ m → Ready true list at m
-ready-counted {list} {at} {old} {new} {n} {m} c h = record { room = λ w. go list (c .says) }
-  where
-    go : (r : Result (List Instruction)) → ok n ≡ counted r → Fits r at m
-    go (ok is) e = let l : n ≡ length is = let z = e in cc in omega arith
-    go (refused q) e = absurd (never (sym e))

@@ -1,7 +1,12 @@
--- The numbers of codes: all cells of a record but its two values are below 100.
-use Prim.Native.Nat.{ℕ, _+_, _*_, _<_}
+-- Codes and what they stand for. What is looked up by a code's number is the code; and all cells of a record but its two values are below 100.
+use Prim.Native.Nat.{ℕ, _+_, _*_, _-_, _<_}
+use mathlib.Core.Path.{_≡_, refl}
+use mathlib.Core.Bool.{Bool, true, false, cond}
+use mathlib.Core.List.{List, [], _∷_}
+use mathlib.Core.Option.{some}
 use native.Mathlib.Omega.{arith}
-use lib.Dec.{lit<}
+use borrow.Author.Tests.{eqb-true, ltb-true, le-ltb}
+use lib.Dec.{eqb, ltb, lit<}
 use Rattle.x86.specs.declared.mem_address.Base.{Base}
 use Rattle.x86.specs.declared.enums.Size.{Size}
 use Rattle.x86.specs.declared.enums.Operand.{Operand}
@@ -18,23 +23,148 @@ use Rattle.x86.specs.declared.enums.ExtendOp.{ExtendOp}
 use Rattle.x86.specs.declared.enums.ConvOp.{ConvOp}
 use Rattle.x86.specs.declared.enums.Instruction.{Instruction}
 use Rattle.x86.specs.Records.{Record, sizeCode, baseTag, tagOf, conditionCode, binCode, shiftCode, complexCode, unaryCode, stackCode, ctrlCode, prefixCode, stringCode, extendCode, convCode, recordWith, recordOf}
+use Rattle.x86.specs.Decode.{lookUp, sizes, conditions, binaries, shifts, complexes, unaries, stacks, extends, conversions, controlOf}
 
-pub record Narrow (r : Record) : Type 0 where
-  pub form : r .form < 100
-  pub operation : r .operation < 100
-  pub dstTag : r .dstTag < 100
-  pub srcTag : r .srcTag < 100
-  pub size : r .size < 100
-  pub srcSize : r .srcSize < 100
+-- ---- from a number back to its code
 
--- ---- the codes
+pub size-back : (z : Size) → lookUp sizes (sizeCode z) ≡ some z
+size-back Size.NoSize = refl
+size-back Size.U8 = refl
+size-back Size.U16 = refl
+size-back Size.U32 = refl
+size-back Size.U64 = refl
+
+pub condition-back : (c : ConditionCode) → lookUp conditions (conditionCode c) ≡ some c
+condition-back ConditionCode.E = refl
+condition-back ConditionCode.NE = refl
+condition-back ConditionCode.G = refl
+condition-back ConditionCode.GE = refl
+condition-back ConditionCode.L = refl
+condition-back ConditionCode.LE = refl
+condition-back ConditionCode.A = refl
+condition-back ConditionCode.AE = refl
+condition-back ConditionCode.B = refl
+condition-back ConditionCode.BE = refl
+condition-back ConditionCode.P = refl
+condition-back ConditionCode.NP = refl
+
+pub binary-back : (o : BinOp) → lookUp binaries (binCode o) ≡ some o
+binary-back BinOp.Mov = refl
+binary-back BinOp.Xchg = refl
+binary-back BinOp.Add = refl
+binary-back BinOp.Sub = refl
+binary-back BinOp.Adc = refl
+binary-back BinOp.Sbb = refl
+binary-back BinOp.And = refl
+binary-back BinOp.Or = refl
+binary-back BinOp.Xor = refl
+binary-back BinOp.Cmp = refl
+binary-back BinOp.Test = refl
+binary-back BinOp.LoadF = refl
+binary-back BinOp.StoreF = refl
+binary-back BinOp.AddF = refl
+binary-back BinOp.SubF = refl
+binary-back BinOp.MulF = refl
+binary-back BinOp.DivF = refl
+binary-back BinOp.ComiF = refl
+binary-back BinOp.UcomiF = refl
+
+pub shift-back : (o : ShiftOp) → lookUp shifts (shiftCode o) ≡ some o
+shift-back ShiftOp.Shl = refl
+shift-back ShiftOp.Shr = refl
+shift-back ShiftOp.Sar = refl
+
+pub complex-back : (o : ComplexBinOp) → lookUp complexes (complexCode o) ≡ some o
+complex-back ComplexBinOp.Div = refl
+complex-back ComplexBinOp.Imul = refl
+complex-back ComplexBinOp.Idiv = refl
+
+pub unary-back : (o : UnaryOp) → lookUp unaries (unaryCode o) ≡ some o
+unary-back UnaryOp.Neg = refl
+unary-back UnaryOp.Not = refl
+unary-back UnaryOp.Cdq = refl
+unary-back UnaryOp.Cqo = refl
+
+pub stack-back : (o : StackOp) → lookUp stacks (stackCode o) ≡ some o
+stack-back StackOp.Push = refl
+stack-back StackOp.Pop = refl
+
+pub extend-back : (o : ExtendOp) → lookUp extends (extendCode o) ≡ some o
+extend-back ExtendOp.Movsxd = refl
+extend-back ExtendOp.Movzx = refl
+
+pub conversion-back : (o : ConvOp) → lookUp conversions (convCode o) ≡ some o
+conversion-back ConvOp.Cvtsd2ss = refl
+conversion-back ConvOp.Cvtsi2sd = refl
+conversion-back ConvOp.Cvtsi2ss = refl
+conversion-back ConvOp.Cvtss2sd = refl
+conversion-back ConvOp.Cvttsd2si = refl
+conversion-back ConvOp.Cvttss2si = refl
+
+-- the code of JmpCC is 64 and its condition's
+conditional-back : (c : ConditionCode) → controlOf (ctrlCode (CtrlOp.JmpCC c)) ≡ some (CtrlOp.JmpCC c)
+conditional-back c =
+    let e : 64 + conditionCode c - 64 ≡ conditionCode c = omega arith in
+    rw (le-ltb (64 + conditionCode c) 64 (omega arith), e, condition-back c)
+
+pub control-back : (o : CtrlOp) → controlOf (ctrlCode o) ≡ some o
+control-back CtrlOp.Jmp = refl
+control-back CtrlOp.Call = refl
+control-back CtrlOp.Ret = refl
+control-back (CtrlOp.JmpCC c) = conditional-back c
+
+-- ---- bounds: what is looked up in a table is below a number that all its codes are below, which is computed
+
+abbrev allBelow : {A : Type 0} → ℕ → List (ℕ × A) → Bool
+allBelow n [] = true
+allBelow n (e ∷ es) = cond (ltb (e .0) n) (allBelow n es) false
+
+below : {A : Type 0} (n : ℕ) (es : List (ℕ × A)) (k : ℕ) (a : A) → allBelow n es ≡ true → lookUp es k ≡ some a → k < n
+below n [] k a t h = let z : _≡_ {A = ℕ} 0 1 = cc in absurd (omega arith)
+below n (e ∷ es) k a t h = go (ltb (e .0) n) refl t (eqb (e .0) k) refl h (below n es k a)
+  where
+    go : (b : Bool) → ltb (e .0) n ≡ b → cond b (allBelow n es) false ≡ true → (c : Bool) → eqb (e .0) k ≡ c → cond c (some (e .1)) (lookUp es k) ≡ some a
+        → (allBelow n es ≡ true → lookUp es k ≡ some a → k < n) → k < n
+    go true p t true q h more = omega (arith, ltb-true (e .0) n p, eqb-true (e .0) k q)
+    go true p t false q h more = more t h
+    go false p t c q h more = let z : _≡_ {A = ℕ} 0 1 = cc in absurd (omega arith)
 
 size-lt : (o : Size) → sizeCode o < 100
-size-lt Size.NoSize = lit< tt
-size-lt Size.U8 = lit< tt
-size-lt Size.U16 = lit< tt
-size-lt Size.U32 = lit< tt
-size-lt Size.U64 = lit< tt
+size-lt o = below 100 sizes (sizeCode o) o refl (size-back o)
+
+condition-lt : (o : ConditionCode) → conditionCode o < 16
+condition-lt o = below 16 conditions (conditionCode o) o refl (condition-back o)
+
+binary-lt : (o : BinOp) → binCode o < 100
+binary-lt o = below 100 binaries (binCode o) o refl (binary-back o)
+
+shift-lt : (o : ShiftOp) → shiftCode o < 100
+shift-lt o = below 100 shifts (shiftCode o) o refl (shift-back o)
+
+complex-lt : (o : ComplexBinOp) → complexCode o < 100
+complex-lt o = below 100 complexes (complexCode o) o refl (complex-back o)
+
+unary-lt : (o : UnaryOp) → unaryCode o < 100
+unary-lt o = below 100 unaries (unaryCode o) o refl (unary-back o)
+
+stack-lt : (o : StackOp) → stackCode o < 100
+stack-lt o = below 100 stacks (stackCode o) o refl (stack-back o)
+
+extend-lt : (o : ExtendOp) → extendCode o < 100
+extend-lt o = below 100 extends (extendCode o) o refl (extend-back o)
+
+conversion-lt : (o : ConvOp) → convCode o < 100
+conversion-lt o = below 100 conversions (convCode o) o refl (conversion-back o)
+
+-- those that no table has
+control-lt : (o : CtrlOp) → ctrlCode o < 100
+control-lt CtrlOp.Jmp = lit< tt
+control-lt CtrlOp.Call = lit< tt
+control-lt CtrlOp.Ret = lit< tt
+control-lt (CtrlOp.JmpCC c) = omega (arith, condition-lt c)
+
+prefix-lt : (p : Prefix) (o : StringOp) → 16 * prefixCode p + stringCode o < 100
+prefix-lt Prefix.Rep StringOp.Stos = lit< tt
 
 base-lt : (o : Base) → baseTag o < 100
 base-lt Base.Rbp = lit< tt
@@ -50,83 +180,15 @@ tag-lt (Operand.Sym n) = lit< tt
 tag-lt (Operand.Label n) = lit< tt
 tag-lt (Operand.MemoryAddress a) = base-lt (a .base)
 
-condition-lt : (o : ConditionCode) → conditionCode o < 16
-condition-lt ConditionCode.E = lit< tt
-condition-lt ConditionCode.NE = lit< tt
-condition-lt ConditionCode.G = lit< tt
-condition-lt ConditionCode.GE = lit< tt
-condition-lt ConditionCode.L = lit< tt
-condition-lt ConditionCode.LE = lit< tt
-condition-lt ConditionCode.A = lit< tt
-condition-lt ConditionCode.AE = lit< tt
-condition-lt ConditionCode.B = lit< tt
-condition-lt ConditionCode.BE = lit< tt
-condition-lt ConditionCode.P = lit< tt
-condition-lt ConditionCode.NP = lit< tt
-
-binary-lt : (o : BinOp) → binCode o < 100
-binary-lt BinOp.Mov = lit< tt
-binary-lt BinOp.Xchg = lit< tt
-binary-lt BinOp.Add = lit< tt
-binary-lt BinOp.Sub = lit< tt
-binary-lt BinOp.Adc = lit< tt
-binary-lt BinOp.Sbb = lit< tt
-binary-lt BinOp.And = lit< tt
-binary-lt BinOp.Or = lit< tt
-binary-lt BinOp.Xor = lit< tt
-binary-lt BinOp.Cmp = lit< tt
-binary-lt BinOp.Test = lit< tt
-binary-lt BinOp.LoadF = lit< tt
-binary-lt BinOp.StoreF = lit< tt
-binary-lt BinOp.AddF = lit< tt
-binary-lt BinOp.SubF = lit< tt
-binary-lt BinOp.MulF = lit< tt
-binary-lt BinOp.DivF = lit< tt
-binary-lt BinOp.ComiF = lit< tt
-binary-lt BinOp.UcomiF = lit< tt
-
-shift-lt : (o : ShiftOp) → shiftCode o < 100
-shift-lt ShiftOp.Shl = lit< tt
-shift-lt ShiftOp.Shr = lit< tt
-shift-lt ShiftOp.Sar = lit< tt
-
-complex-lt : (o : ComplexBinOp) → complexCode o < 100
-complex-lt ComplexBinOp.Div = lit< tt
-complex-lt ComplexBinOp.Imul = lit< tt
-complex-lt ComplexBinOp.Idiv = lit< tt
-
-unary-lt : (o : UnaryOp) → unaryCode o < 100
-unary-lt UnaryOp.Neg = lit< tt
-unary-lt UnaryOp.Not = lit< tt
-unary-lt UnaryOp.Cdq = lit< tt
-unary-lt UnaryOp.Cqo = lit< tt
-
-stack-lt : (o : StackOp) → stackCode o < 100
-stack-lt StackOp.Push = lit< tt
-stack-lt StackOp.Pop = lit< tt
-
-control-lt : (o : CtrlOp) → ctrlCode o < 100
-control-lt CtrlOp.Jmp = lit< tt
-control-lt CtrlOp.Call = lit< tt
-control-lt CtrlOp.Ret = lit< tt
-control-lt (CtrlOp.JmpCC c) = omega (arith, condition-lt c)
-
-prefix-lt : (p : Prefix) (o : StringOp) → 16 * prefixCode p + stringCode o < 100
-prefix-lt Prefix.Rep StringOp.Stos = lit< tt
-
-extend-lt : (o : ExtendOp) → extendCode o < 100
-extend-lt ExtendOp.Movsxd = lit< tt
-extend-lt ExtendOp.Movzx = lit< tt
-
-conversion-lt : (o : ConvOp) → convCode o < 100
-conversion-lt ConvOp.Cvtsd2ss = lit< tt
-conversion-lt ConvOp.Cvtsi2sd = lit< tt
-conversion-lt ConvOp.Cvtsi2ss = lit< tt
-conversion-lt ConvOp.Cvtss2sd = lit< tt
-conversion-lt ConvOp.Cvttsd2si = lit< tt
-conversion-lt ConvOp.Cvttss2si = lit< tt
-
 -- ---- every record
+
+pub record Narrow (r : Record) : Type 0 where
+  pub form : r .form < 100
+  pub operation : r .operation < 100
+  pub dstTag : r .dstTag < 100
+  pub srcTag : r .srcTag < 100
+  pub size : r .size < 100
+  pub srcSize : r .srcSize < 100
 
 narrow-with : (form operation : ℕ) (d x : Operand) (z y : Size) → form < 100 → operation < 100 → Narrow (recordWith form operation d x z y)
 narrow-with form operation d x z y f o =

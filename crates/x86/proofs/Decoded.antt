@@ -1,5 +1,5 @@
 -- Decoding reads back what was written: of each instruction that has a record, and of a list in its bytes.
-use Prim.Native.Nat.{ℕ, _+_, _*_, _-_, _^_, _<_}
+use Prim.Native.Nat.{ℕ, _+_, _-_, _^_, _<_}
 use mathlib.Core.Path.{_≡_, refl, sym, ap, ap₂, _∙_}
 use mathlib.Core.List.{List, [], _∷_, _++_, append-assoc}
 use mathlib.Core.Option.{some}
@@ -7,125 +7,20 @@ use mathlib.Core.Bool.{true}
 use lib.Dec.{lit<}
 use lib.ListN.{length, length-append}
 use native.Mathlib.Omega.{arith}
-use borrow.Author.Tests.{lt-ltb, le-ltb, eq-eqb}
+use borrow.Author.Tests.{lt-ltb, eq-eqb}
 use Rattle.cells.specs.Cells.{bytesOf, word}
 use Rattle.cells.proofs.Bytes.{word-of-bytes, bytesOf-length}
 use Rattle.x86.specs.declared.register.Register.{Register}
 use Rattle.x86.specs.declared.mem_address.Base.{Base}
 use Rattle.x86.specs.declared.enums.Size.{Size}
 use Rattle.x86.specs.declared.enums.Operand.{Operand}
-use Rattle.x86.specs.declared.enums.ConditionCode.{ConditionCode}
-use Rattle.x86.specs.declared.enums.BinOp.{BinOp}
-use Rattle.x86.specs.declared.enums.ShiftOp.{ShiftOp}
-use Rattle.x86.specs.declared.enums.ComplexBinOp.{ComplexBinOp}
-use Rattle.x86.specs.declared.enums.UnaryOp.{UnaryOp}
-use Rattle.x86.specs.declared.enums.StackOp.{StackOp}
-use Rattle.x86.specs.declared.enums.CtrlOp.{CtrlOp}
 use Rattle.x86.specs.declared.enums.StringOp.{StringOp}
 use Rattle.x86.specs.declared.enums.Prefix.{Prefix}
-use Rattle.x86.specs.declared.enums.ExtendOp.{ExtendOp}
-use Rattle.x86.specs.declared.enums.ConvOp.{ConvOp}
 use Rattle.x86.specs.declared.enums.Instruction.{Instruction}
 use Rattle.x86.specs.Registers.{number}
-use Rattle.x86.specs.Records.{Record, sizeCode, baseTag, tagOf, valueOf, conditionCode, binCode, shiftCode, complexCode, unaryCode, stackCode, ctrlCode, extendCode, convCode, prefixCode, stringCode, recordWith, recordOf, recordBytes, listBytes}
-use Rattle.x86.proofs.Codes.{narrow-record}
-use Rattle.x86.specs.Decode.{lookUp, sizes, conditions, binaries, shifts, complexes, unaries, stacks, extends, conversions, registerAt, operandOf, controlOf, candidate, sameCells, decode, recordAt, decodeList, FitsRegister, FitsOperand, Fits, AllFit}
-
--- ---- codes
-
-size-back : (z : Size) → lookUp sizes (sizeCode z) ≡ some z
-size-back Size.NoSize = refl
-size-back Size.U8 = refl
-size-back Size.U16 = refl
-size-back Size.U32 = refl
-size-back Size.U64 = refl
-
-condition-back : (c : ConditionCode) → lookUp conditions (conditionCode c) ≡ some c
-condition-back ConditionCode.E = refl
-condition-back ConditionCode.NE = refl
-condition-back ConditionCode.G = refl
-condition-back ConditionCode.GE = refl
-condition-back ConditionCode.L = refl
-condition-back ConditionCode.LE = refl
-condition-back ConditionCode.A = refl
-condition-back ConditionCode.AE = refl
-condition-back ConditionCode.B = refl
-condition-back ConditionCode.BE = refl
-condition-back ConditionCode.P = refl
-condition-back ConditionCode.NP = refl
-
-binary-back : (o : BinOp) → lookUp binaries (binCode o) ≡ some o
-binary-back BinOp.Mov = refl
-binary-back BinOp.Xchg = refl
-binary-back BinOp.Add = refl
-binary-back BinOp.Sub = refl
-binary-back BinOp.Adc = refl
-binary-back BinOp.Sbb = refl
-binary-back BinOp.And = refl
-binary-back BinOp.Or = refl
-binary-back BinOp.Xor = refl
-binary-back BinOp.Cmp = refl
-binary-back BinOp.Test = refl
-binary-back BinOp.LoadF = refl
-binary-back BinOp.StoreF = refl
-binary-back BinOp.AddF = refl
-binary-back BinOp.SubF = refl
-binary-back BinOp.MulF = refl
-binary-back BinOp.DivF = refl
-binary-back BinOp.ComiF = refl
-binary-back BinOp.UcomiF = refl
-
-shift-back : (o : ShiftOp) → lookUp shifts (shiftCode o) ≡ some o
-shift-back ShiftOp.Shl = refl
-shift-back ShiftOp.Shr = refl
-shift-back ShiftOp.Sar = refl
-
-complex-back : (o : ComplexBinOp) → lookUp complexes (complexCode o) ≡ some o
-complex-back ComplexBinOp.Div = refl
-complex-back ComplexBinOp.Imul = refl
-complex-back ComplexBinOp.Idiv = refl
-
-unary-back : (o : UnaryOp) → lookUp unaries (unaryCode o) ≡ some o
-unary-back UnaryOp.Neg = refl
-unary-back UnaryOp.Not = refl
-unary-back UnaryOp.Cdq = refl
-unary-back UnaryOp.Cqo = refl
-
-stack-back : (o : StackOp) → lookUp stacks (stackCode o) ≡ some o
-stack-back StackOp.Push = refl
-stack-back StackOp.Pop = refl
-
-extend-back : (o : ExtendOp) → lookUp extends (extendCode o) ≡ some o
-extend-back ExtendOp.Movsxd = refl
-extend-back ExtendOp.Movzx = refl
-
-conversion-back : (o : ConvOp) → lookUp conversions (convCode o) ≡ some o
-conversion-back ConvOp.Cvtsd2ss = refl
-conversion-back ConvOp.Cvtsi2sd = refl
-conversion-back ConvOp.Cvtsi2ss = refl
-conversion-back ConvOp.Cvtss2sd = refl
-conversion-back ConvOp.Cvttsd2si = refl
-conversion-back ConvOp.Cvttss2si = refl
-
-conditional-back : (c : ConditionCode) → controlOf (ctrlCode (CtrlOp.JmpCC c)) ≡ some (CtrlOp.JmpCC c)
-conditional-back ConditionCode.E = refl
-conditional-back ConditionCode.NE = refl
-conditional-back ConditionCode.G = refl
-conditional-back ConditionCode.GE = refl
-conditional-back ConditionCode.L = refl
-conditional-back ConditionCode.LE = refl
-conditional-back ConditionCode.A = refl
-conditional-back ConditionCode.AE = refl
-conditional-back ConditionCode.B = refl
-conditional-back ConditionCode.BE = refl
-conditional-back ConditionCode.P = refl
-conditional-back ConditionCode.NP = refl
-
-control-back : (o : CtrlOp) → controlOf (ctrlCode o) ≡ some o
-control-back CtrlOp.Jmp = refl
-control-back CtrlOp.Call = refl
-control-back CtrlOp.Ret = refl
-control-back (CtrlOp.JmpCC c) = conditional-back c
+use Rattle.x86.specs.Records.{Record, tagOf, valueOf, recordOf, recordBytes, listBytes}
+use Rattle.x86.proofs.Codes.{size-back, condition-back, binary-back, shift-back, complex-back, unary-back, stack-back, extend-back, conversion-back, control-back, narrow-record}
+use Rattle.x86.specs.Decode.{registerAt, operandOf, candidate, sameCells, decode, recordAt, decodeList, FitsRegister, FitsOperand, Fits, AllFit}
 
 -- ---- operands
 

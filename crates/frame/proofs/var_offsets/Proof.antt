@@ -24,13 +24,13 @@ returns c =
     (a .says, (c .before .before .before .before .before .loop .inv .1, (all-filled _ _ _ _ (a .leaves), a .leaves)))
 
 type-at-requires : tie.Need-type-at-requires Inv-loop μ-loop
-type-at-requires c κs = type-right _ (c .before .before .before .before .before .loop .here) (sym (c .before .before .before .type-check .ensures) ∙ c .before .next .given .1) .2 .there
+type-at-requires c κs = type-right _ (c .before .before .before .before .before .loop .here) (sym (c .before .before .before .type-check .ensures) ∙ c .before .next .given .1) .1
 
 offset-behind-requires : tie.Need-offset-behind-requires Inv-loop μ-loop
 offset-behind-requires c κs = c .before .before .before .before .before .before .loop .inv .0 .small
 
 add-t18 : tie.Need-add-t18 Inv-loop μ-loop
-add-t18 c = omega (arith, type-right _ (c .before .before .before .before .before .before .before .before .before .loop .here) (sym (c .before .before .before .before .before .before .before .type-check .ensures) ∙ c .before .before .before .before .before .next .given .1) .2 .there)
+add-t18 c = omega (arith, type-right _ (c .before .before .before .before .before .before .before .before .before .loop .here) (sym (c .before .before .before .before .before .before .before .type-check .ensures) ∙ c .before .before .before .before .before .next .given .1) .1)
 
 returns-2 : tie.Need-returns-2 Inv-loop μ-loop
 returns-2 c =

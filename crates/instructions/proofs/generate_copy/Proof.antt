@@ -1,6 +1,5 @@
 use Rattle.utils.specs.Answers.{operandSays}
 use Rattle.utils.specs.Slots.{slotSays}
-use Rattle.instructions.specs.Looks.{movedOf}
 use Rattle.instructions.proofs.Looked.{copy-looked, no-slot}
 use Rattle.utils.proofs.Made.{told, has-room, makes, counts, refuses, no-list}
 use borrow.Author.Needs.{needs}

@@ -86,20 +86,6 @@ put-cells-sub-separator t c =
     let e = c .before .before .before .before .before .before in
     omega (arith, e .if1 .left)
 
-put-cells-separator-requires : (t : ℕ) → put-cells-lts.Need-separator-requires (
-  cell-at-reads.Asked,
-  cell-at-reads.Learnt,
-  put-signed-reads.Asked,
-  put-signed-reads.Learnt,
-  separator-reads.Asked,
-  separator-reads.Learnt,
-  put-byte-reads.Asked,
-  put-byte-reads.Learnt,
-  put-cells-below t,
-  put-cells.Post,
-) (put-cells-at t) put-cells.Post
-put-cells-separator-requires t c κs = search needs
-
 put-cells-put-byte-requires : (t : ℕ) → put-cells-lts.Need-put-byte-requires (
   cell-at-reads.Asked,
   cell-at-reads.Learnt,
@@ -249,7 +235,7 @@ pub +put-cells-spec : {M : Type 1} → statement M
     (put-cells-cell-at-requires t)
     (put-cells-put-signed-requires t)
     (put-cells-sub-separator t)
-    (put-cells-separator-requires t)
+    (λ c κs. search needs)
     (put-cells-put-byte-requires t)
     (put-cells-add-put-cells t)
     (put-cells-sub-put-cells t)

@@ -33,16 +33,6 @@ put-digits-returns : (t : ℕ) → put-digits-lts.Need-returns (
 ) (put-digits-at t) put-digits.Post
 put-digits-returns t c = no-digits _ _ (c .if1 .taken)
 
-put-digits-digit-requires : (t : ℕ) → put-digits-lts.Need-digit-requires (
-  digit-reads.Asked,
-  digit-reads.Learnt,
-  put-byte-reads.Asked,
-  put-byte-reads.Learnt,
-  put-digits-below t,
-  put-digits.Post,
-) (put-digits-at t) put-digits.Post
-put-digits-digit-requires t c κs = search needs
-
 put-digits-put-byte-requires : (t : ℕ) → put-digits-lts.Need-put-byte-requires (
   digit-reads.Asked,
   digit-reads.Learnt,
@@ -76,16 +66,6 @@ put-digits-returns-2 t c =
     let d = p .before in
     one-digit _ _ (d .before .before .before .if1 .left) (d .before .before .if2 .taken) (d .digit .ensures) (p .put-byte .ensures)
 
-put-digits-sub-put-digits : (t : ℕ) → put-digits-lts.Need-sub-put-digits (
-  digit-reads.Asked,
-  digit-reads.Learnt,
-  put-byte-reads.Asked,
-  put-byte-reads.Learnt,
-  put-digits-below t,
-  put-digits.Post,
-) (put-digits-at t) put-digits.Post
-put-digits-sub-put-digits t c = search needs
-
 put-digits-put-digits-requires : (t : ℕ) → put-digits-lts.Need-put-digits-requires (
   digit-reads.Asked,
   digit-reads.Learnt,
@@ -98,16 +78,6 @@ put-digits-put-digits-requires t c κs =
     let e = c .before .before in
     let s = e .before .before in
     (omega (arith, e .if1 .left, s .pre .0), omega (arith, s .pre .1))
-
-put-digits-digit-requires-2 : (t : ℕ) → put-digits-lts.Need-digit-requires-2 (
-  digit-reads.Asked,
-  digit-reads.Learnt,
-  put-byte-reads.Asked,
-  put-byte-reads.Learnt,
-  put-digits-below t,
-  put-digits.Post,
-) (put-digits-at t) put-digits.Post
-put-digits-digit-requires-2 t c κs = search needs
 
 put-digits-put-byte-requires-2 : (t : ℕ) → put-digits-lts.Need-put-byte-requires-2 (
   digit-reads.Asked,
@@ -163,13 +133,13 @@ pub +put-digits-spec : {M : Type 1} → statement M
     (put-digits-at t)
     put-digits.Post
     (put-digits-returns t)
-    (put-digits-digit-requires t)
+    (λ c κs. search needs)
     (put-digits-put-byte-requires t)
     (put-digits-same-length t)
     (put-digits-returns-2 t)
-    (put-digits-sub-put-digits t)
+    (λ c. search needs)
     (put-digits-put-digits-requires t)
-    (put-digits-digit-requires-2 t)
+    (λ c κs. search needs)
     (put-digits-put-byte-requires-2 t)
     (put-digits-same-length-2 t)
     (put-digits-returns-3 t)
