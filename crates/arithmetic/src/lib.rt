@@ -1,4 +1,4 @@
-// Krc's codegen/arithmetic.rs: `generate_binary`, the choice over the eighteen binary operations, and `generate_unary`.
+// This is Krc's codegen/arithmetic.rs: `generate_binary`, which chooses among the eighteen binary operations, and `generate_unary`.
 use comparisons::comparison;
 use ir::Type;
 use ir::UnaryOp as IrUnary;
@@ -40,7 +40,7 @@ ghost use Rattle.utils.specs.Makes.{Makes, Ready};
 ghost use Rattle.arithmetic.specs.Codes.{floatCode, simpleCode, comparisonCode, shiftCode, resultRegister};
 ghost use Rattle.arithmetic.specs.Unary.{changedSays, lookUnary, changedOf, signOf, unaryRecord, isNegation, flipsSign};
 
-// The code of a float's operation, by its number.
+// It gives the code of a float's operation by its number.
 fn float_code(op: u64) -> BinOp
     ensures { λ r. ⌜ r ≡ floatCode op ⌝ }
 {
@@ -73,7 +73,7 @@ fn float_binary(
     }
 }
 
-// The code of an operation on RAX and right.
+// It gives the code of an operation on RAX and right.
 fn simple_code(op: u64) -> BinOp
     ensures { λ r. ⌜ r ≡ simpleCode op ⌝ }
 {
@@ -86,7 +86,7 @@ fn simple_code(op: u64) -> BinOp
     }
 }
 
-// The code of a comparison.
+// It gives the code of a comparison.
 fn comparison_code(op: u64) -> ConditionCode
     ensures { λ r. ⌜ r ≡ comparisonCode op ⌝ }
 {
@@ -166,7 +166,7 @@ fn integer_binary(
     }
 }
 
-// `dest = left op right`, sized by dest; `op` is a position in Krc's `BinaryOp`.
+// It makes `dest = left op right`, sized by dest; `op` is a position in Krc's `BinaryOp`.
 pub fn generate_binary(
     tables: &[u8],
     offsets: &[u64],
@@ -188,7 +188,7 @@ pub fn generate_binary(
     integer_binary(tables, offsets, s, k, op, out, at, write)
 }
 
-// A source, dest's slot and dest's size.
+// The look-ups find a source, dest's slot and dest's size.
 pub struct Changed {
     pub src: Operand,
     pub var: Operand,
@@ -218,7 +218,7 @@ fn look_unary(tables: &[u8], offsets: &[u64], s: &[u8], k: usize) -> ChangedResu
     }
 }
 
-// A float's sign bit: `i32::MIN` for four bytes, else `i64::MIN`.
+// A float's sign bit is `i32::MIN` for four bytes, else `i64::MIN`.
 fn sign_bit(size: Size) -> u64
     ensures { λ r. ⌜ r ≡ signBit size ⌝ }
 {
@@ -231,7 +231,7 @@ fn sign_bit(size: Size) -> u64
     }
 }
 
-// The record of an operation on RAX; the logical not of a Bool flips its lowest bit.
+// It writes the record of an operation on RAX. The logical not of a Bool flips its lowest bit.
 fn put_operation(out: &mut [u8], at: usize, op: IrUnary, size: Size)
     requires { ⌜ at + 64 ≤ length (now out) ⌝ }
     ensures { λ _. ⌜ now (out .exit) ≡ write (now (out .entry)) at (recordBytes (recordOf (unaryRecord op size))) ⌝ }
@@ -269,7 +269,7 @@ fn put_operation(out: &mut [u8], at: usize, op: IrUnary, size: Size)
     }
 }
 
-// A load, a record on RAX, and the store to dest.
+// It writes a load, a record on RAX, and the store to dest.
 fn put_changed(out: &mut [u8], at: usize, t: Changed, op: IrUnary)
     requires { ⌜ at + 192 ≤ length (now out) ⌝ }
     ensures { λ _. ⌜ now (out .exit) ≡ write (now (out .entry)) at (listBytes (changedOf (unaryRecord op (t .size)) t)) ⌝ }
@@ -327,7 +327,7 @@ fn flips_sign(op: IrUnary, ty: Type) -> bool
     }
 }
 
-// `dest = op src`.
+// It makes `dest = op src`.
 pub fn generate_unary(
     tables: &[u8],
     offsets: &[u64],

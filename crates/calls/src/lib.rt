@@ -1,4 +1,4 @@
-// Krc's codegen/instructions.rs, calls: `generate_call`, with `float_parameter` and `normal_param`.
+// These are the calls of Krc's codegen/instructions.rs: `generate_call`, with `float_parameter` and `normal_param`.
 use codegen::registers::Taken;
 use ir::Dest;
 use ir::Operand as IrOp;
@@ -381,8 +381,8 @@ fn call_symbol(
     }
 }
 
-// `call symbol` with the `count` arguments from cell `from` on: the floats in XMM0 to XMM7, the others in RDI, RSI, RDX, RCX, R8 and R9, and those in
-// excess of them on the stack.
+// It makes `call symbol` with the `count` arguments from cell `from` on: the floats go into XMM0 to XMM7, the others into RDI, RSI, RDX, RCX, R8 and R9,
+// and those in excess of them onto the stack.
 pub fn generate_call(
     tables: &[u8],
     offsets: &[u64],

@@ -1,1 +1,1 @@
-// The twelve cases of the specification, as one table that is proved over the definitions.
+// The twelve cases of the specification are one table, which is proved over the definitions.

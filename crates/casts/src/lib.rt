@@ -1,4 +1,4 @@
-// Krc's codegen/instructions.rs, casts: `generate_cast`.
+// This is `generate_cast` of Krc's codegen/instructions.rs.
 use codegen::shorts::is_unsigned_short;
 use instructions::generate_copy;
 use instructions::put_moved;
@@ -45,8 +45,8 @@ ghost use Rattle.utils.specs.Kinds.{kindSays};
 ghost use Rattle.utils.specs.Makes.{Makes, Ready};
 ghost use Rattle.casts.specs.Casts.{isConstant, isByte, constantSize, movzx, sourceRecords, sourceOperand, sourceSize, sourceSays, sourceResultSays, castSource, storeOp, convertedOf, isExtended, extendedOf, floatToFloat, integerToFloat, floatToInteger};
 
-// What is cast: its operand; whether it is a constant, which goes through RAX; whether it is one byte that is no float, which is widened there; and its
-// size in bytes before that.
+// What is cast has an operand. It may be a constant, which goes through RAX, or one byte that is no float, which is widened there. Its size in bytes is
+// that before.
 pub struct Source {
     pub operand: Operand,
     pub constant: bool,
@@ -101,7 +101,7 @@ fn one_if(b: bool) -> u64
     if b { 1 } else { 0 }
 }
 
-// How many records bring the source to where it is converted.
+// It counts the records that bring the source to where it is converted.
 fn source_count(s: Source) -> u64
     ensures { λ r. ⌜ (r ≡ length (sourceRecords s)) × (r ≤ 2) ⌝ }
 {
@@ -119,7 +119,7 @@ fn constant_size(n: u64) -> Size
     }
 }
 
-// The operand that is converted, once the source's records have run.
+// This operand is converted, once the source's records have run.
 fn source_operand(s: Source) -> Operand
     ensures { λ r. ⌜ r ≡ sourceOperand s ⌝ }
 {
@@ -132,7 +132,7 @@ fn source_operand(s: Source) -> Operand
     s.operand
 }
 
-// .. and its size in bytes.
+// This is its size in bytes.
 fn source_size(s: Source) -> u64
     ensures { λ r. ⌜ r ≡ sourceSize s ⌝ }
 {
@@ -151,7 +151,7 @@ fn movzx(src: Operand) -> Instruction
     }
 }
 
-// The source's records: none, a constant's load, Movzx, or both.
+// The source has no records, a constant's load, Movzx, or both.
 fn put_source(out: &mut [u8], at: usize, s: Source)
     requires { ⌜ at + 64 * length (sourceRecords s) ≤ length (now out) ⌝ }
     ensures { λ _. ⌜ now (out .exit) ≡ write (now (out .entry)) at (listBytes (sourceRecords s)) ⌝ }
@@ -214,7 +214,7 @@ fn put_converted(
     );
 }
 
-// A conversion and the store of its result.
+// It makes a conversion and the store of its result.
 fn converted(
     tables: &[u8],
     offsets: &[u64],
@@ -245,7 +245,7 @@ fn converted(
     }
 }
 
-// Between integers, whether a record widens the source in RAX: not where that has eight bytes already.
+// Between integers a record widens the source in RAX, unless that has eight bytes already.
 fn is_extended(s: Source) -> bool
     ensures { λ r. ⌜ r ≡ isExtended (sourceSays s) ⌝ }
 {
@@ -279,7 +279,7 @@ fn put_extended(out: &mut [u8], at: usize, s: Source, t: Slot)
     put_instruction(out, place, mov(var, rax, size));
 }
 
-// Between integers: RAX has eight bytes already, or Movsxd widens four.
+// Between integers RAX has eight bytes already, or Movsxd widens four.
 fn extended(
     tables: &[u8],
     offsets: &[u64],
@@ -336,7 +336,7 @@ fn float_to_integer(n: u64) -> ConvOp
     }
 }
 
-// To a float of `n` bytes.
+// The dest is a float of `n` bytes.
 fn cast_to_float(
     tables: &[u8],
     offsets: &[u64],
@@ -366,7 +366,7 @@ fn cast_to_float(
     }
 }
 
-// From a float to an integer: dest's size in bytes, which is 0 in the contract, plays no part.
+// The source is a float and dest an integer. Dest's size in bytes, which is 0 in the contract, plays no part.
 fn cast_to_integer(
     tables: &[u8],
     offsets: &[u64],
@@ -389,7 +389,7 @@ fn cast_to_integer(
     }
 }
 
-// By whether source and dest are floats, and dest's size.
+// It chooses by whether source and dest are floats, and by dest's size.
 fn cast_between(
     tables: &[u8],
     offsets: &[u64],
@@ -416,14 +416,14 @@ fn cast_between(
     extended(tables, offsets, s, k, from, out, at, write)
 }
 
-// Whether a cast that is no copy widens with zeros.
+// It says whether a cast that is no copy widens with zeros.
 fn is_zero_extended(op: IrOp, to: bool) -> bool
     ensures { λ r. ⌜ r ≡ (not to && isUnsignedShort op) ⌝ }
 {
     if to { false } else { is_unsigned_short(op) }
 }
 
-// An unsigned short to an integer of eight bytes: a four-byte load clears the upper half of RAX.
+// An unsigned short goes to an integer of eight bytes: a four-byte load clears the upper half of RAX.
 fn zero_extended(
     tables: &[u8],
     offsets: &[u64],
@@ -452,7 +452,7 @@ fn zero_extended(
     }
 }
 
-// The low bytes are enough: both are floats of one size, or both are integers and dest is no wider.
+// The low bytes are enough where both are floats of one size, or both are integers and dest is no wider.
 fn is_copy(k: Kind, float: bool, n: u64) -> bool
     ensures { λ r. ⌜ r ≡ isCopy (kindSays k) float n ⌝ }
 {

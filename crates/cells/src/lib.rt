@@ -1,17 +1,17 @@
-// Cells: eight bytes of a lent slice, little-endian. A cell is a u64; a negative number is its two's complement pattern.
+// A cell is eight bytes of a lent slice, little-endian. It is held as a u64; a negative number is its two's complement pattern.
 ghost use mathlib.Core.Path.{_≡_};
 ghost use Prim.Native.Nat.{_+_, _*_, _≤_, _<_};
 ghost use lib.ListN.{length};
 ghost use Rattle.cells.specs.Cells.{half, word, cells, cellAt, readCell, readWithin, bytesOf, write};
 
-// A byte as a wide number, with its bound for the callers' sums.
+// It widens a byte, and states its bound for the callers' sums.
 fn wide(x: u8) -> u64
     ensures { λ r. ⌜ (r ≡ x) × (r < 256) ⌝ }
 {
     x as u64
 }
 
-// The four bytes from `at`, as a number.
+// It reads the four bytes from `at` as a number.
 fn half_at(s: &[u8], at: usize) -> u64
     requires { ⌜ at + 4 ≤ length (now s) ⌝ }
     ensures { λ r. ⌜ (r ≡ half (now (s .entry)) at) × (r < 4294967296) ⌝ }
@@ -23,7 +23,7 @@ fn half_at(s: &[u8], at: usize) -> u64
     b0 + 256 * b1 + 65536 * b2 + 16777216 * b3
 }
 
-// The eight bytes from `at`, as a number.
+// It reads the eight bytes from `at` as a number.
 fn word_at(s: &[u8], at: usize) -> u64
     requires { ⌜ at + 8 ≤ length (now s) ⌝ }
     ensures { λ r. ⌜ r ≡ word (now (s .entry)) at ⌝ }
@@ -31,7 +31,7 @@ fn word_at(s: &[u8], at: usize) -> u64
     half_at(s, at) + 4294967296 * half_at(s, at + 4)
 }
 
-// Cell k of a slice that has it.
+// It reads cell k of a slice that has it.
 pub fn cell_at(s: &[u8], k: usize) -> u64
     requires { ⌜ k < cells (now s) ⌝ }
     ensures { λ r. ⌜ r ≡ cellAt (now (s .entry)) k ⌝ }
@@ -39,12 +39,12 @@ pub fn cell_at(s: &[u8], k: usize) -> u64
     word_at(s, k * 8)
 }
 
-// Where the next cell is read: its number in the slice, from 0.
+// It says where the next cell is read, by its number in the slice, from 0.
 pub struct Cursor {
     pub at: usize,
 }
 
-// What reading finds: the cell and the cursor behind it, or the number of the cell that is missing, torn or wrong.
+// Reading finds the cell and the cursor behind it, or the number of the cell that is missing, torn or wrong.
 pub enum Cell {
     Word(u64, Cursor),
     Wrong(usize),
@@ -68,7 +68,7 @@ impl Cursor {
         }
     }
 
-    // The cell, where its number is from `low` to `high`; another number makes it a wrong cell, as a missing one is.
+    // It gives the cell where its number is from `low` to `high`. Another number makes it a wrong cell, as a missing one is.
     pub fn within(self, s: &[u8], low: u64, high: u64) -> Cell
         ensures { λ r. ⌜ r ≡ readWithin (now (s .entry)) self low high ⌝ }
     {
@@ -88,7 +88,7 @@ impl Cursor {
     }
 }
 
-// Stores a number as the eight bytes from `at`; every other byte stays.
+// It stores a number as the eight bytes from `at`; every other byte stays.
 pub fn put_word(out: &mut [u8], at: usize, v: u64)
     requires { ⌜ at + 8 ≤ length (now out) ⌝ }
     ensures { λ _. ⌜ now (out .exit) ≡ write (now (out .entry)) at (bytesOf v) ⌝ }

@@ -9,7 +9,7 @@ ghost use Rattle.codegen.specs.Frame.{registersOf};
 ghost use Rattle.codegen.specs.Instructions.{registerOf};
 ghost use Rattle.codegen.specs.Excess.{isBeyond, behindOne};
 
-// The register of the parameter of rank `k` among those that are floats, or among those that are not.
+// It gives the register of the parameter of rank `k` among those that are floats, or among those that are not.
 pub fn param_register(float: bool, k: u64) -> Register
     ensures { λ r. ⌜ r ≡ getD (registersOf float) k RAX ⌝ }
 {
@@ -38,7 +38,7 @@ pub fn param_register(float: bool, k: u64) -> Register
     }
 }
 
-// How many registers there are for them.
+// It says how many registers there are for them.
 pub fn registers(float: bool) -> u64
     ensures { λ r. ⌜ r ≡ length (registersOf float) ⌝ }
 {

@@ -1,9 +1,9 @@
-// Which operands are unsigned shorts: a cast of one to eight bytes has zeros above (M-105).
+// It is said here which operands are unsigned shorts: a cast of one to eight bytes has zeros above (M-105).
 use ir::Operand as IrOp;
 ghost use mathlib.Core.Path.{_≡_};
 ghost use Rattle.codegen.specs.Instructions.{isUnsignedShort};
 
-// An unsigned short, variable or constant; an array is none.
+// A variable or a constant can be an unsigned short; an array is none.
 pub fn is_unsigned_short(op: IrOp) -> bool
     ensures { λ r. ⌜ r ≡ isUnsignedShort op ⌝ }
 {

@@ -1,4 +1,4 @@
-// Krc's codegen/arithmetic.rs, comparisons: the records of a comparison of integers or of floats, counted or written.
+// These are the comparisons of Krc's codegen/arithmetic.rs: the records of a comparison of integers or of floats are counted or written.
 use ir::read::operand_at;
 use records::put_instruction;
 use records::put_set_cc;
@@ -35,7 +35,7 @@ ghost use Rattle.utils.specs.Answers.{lent};
 ghost use Rattle.utils.specs.Makes.{Makes, Ready};
 ghost use Rattle.comparisons.specs.Looks.{sidesSay, moreOf, lookCompared, comparedOf};
 
-// The sources of both sides, dest's slot and dest's size.
+// The look-ups find the sources of both sides, dest's slot and dest's size.
 pub struct Sides {
     pub left: Operand,
     pub right: Operand,
@@ -48,13 +48,13 @@ pub enum SidesResult {
     Refused(u64),
 }
 
-// What else a comparison asks: nothing, or the parity flag, by a second code and the operation that joins it to the first.
+// A comparison asks nothing else, or the parity flag, by a second code and the operation that joins it to the first.
 pub enum More {
     Nothing,
     Parity(ConditionCode, BinOp),
 }
 
-// For an unsigned, non-float left G, GE, L, LE turn to A, AE, B, BE: codes 2 to 5 become the code plus 4.
+// For an unsigned left that is no float G, GE, L, LE turn to A, AE, B, BE: codes 2 to 5 become the code plus 4.
 fn unsigned_code(cc: ConditionCode) -> ConditionCode
     ensures { λ r. ⌜ r ≡ unsignedCode cc ⌝ }
 {
@@ -104,7 +104,7 @@ fn ordered(cc: ConditionCode) -> More
     }
 }
 
-// The number of a comparison's records.
+// It counts a comparison's records.
 fn records(more: More) -> u64
     ensures { λ r. ⌜ r ≡ length (moreOf more) + 5 ⌝ }
 {
@@ -151,7 +151,7 @@ fn look_compared(
     }
 }
 
-// What else is asked, and the store to dest.
+// It writes what else is asked, and the store to dest.
 fn put_store(out: &mut [u8], at: usize, var: Operand, stored: Size, more: More)
     requires { ⌜ at + 64 * (length (moreOf more) + 1) ≤ length (now out) ⌝ }
     ensures { λ _. ⌜ now (out .exit) ≡ write (now (out .entry)) at (listBytes (moreOf more ++ move var (Operand.Reg RAX) stored ∷ [])) ⌝ }
@@ -183,7 +183,7 @@ fn put_store(out: &mut [u8], at: usize, var: Operand, stored: Size, more: More)
     }
 }
 
-// Both sides, the comparison, the flag, what else is asked, and the store.
+// It writes both sides, the comparison, the flag, what else is asked, and the store.
 fn put_compared(
     out: &mut [u8],
     at: usize,

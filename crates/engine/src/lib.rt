@@ -1,4 +1,4 @@
-// What the C engine links: the lowering and the plain test, on byte slices, with numbers for answers.
+// The C engine links this: the lowering and the plain test, on byte slices, with numbers for answers.
 use generation::Answer;
 use generation::count;
 use generation::generate;
@@ -15,7 +15,7 @@ ghost use Rattle.machine.specs.Simulation.{Demand3};
 ghost use Rattle.plain.specs.Answers.{plainSays};
 ghost use Rattle.engine.specs.Numbers.{numberOf, IsNumber, valueOf, yesOf, faultOf};
 
-// Lowers the sheet. Gives 0, with the number of records in `place`, or the number of a refusal, with its place.
+// It lowers the sheet. It gives 0, with the number of records in `place`, or the number of a refusal, with its place.
 #[no_mangle]
 pub extern "C" fn gilthoren_lower(
     tables: &[u8],
@@ -43,7 +43,7 @@ pub extern "C" fn gilthoren_lower(
     }
 }
 
-// The plain test (01, "Plain integer functions"): yes where every condition holds, or no with the first number at fault.
+// The plain test (01, "Plain integer functions") says yes where every condition holds, or no with the first number at fault.
 fn plainness(tables: &[u8], sheet: &[u8]) -> Plainness
     ensures { λ r. ⌜ plainSays r ≡ firstFault (now (tables .entry)) (now (sheet .entry)) ⌝ }
 {
@@ -53,7 +53,7 @@ fn plainness(tables: &[u8], sheet: &[u8]) -> Plainness
     }
 }
 
-// The plain test. Gives 1 for yes, with 0 in `place`; or 0 for no, with the first number at fault.
+// The plain test gives 1 for yes, with 0 in `place`; or 0 for no, with the first number at fault.
 #[no_mangle]
 pub extern "C" fn gilthoren_plain(tables: &[u8], sheet: &[u8], place: &mut u64) -> u64
     ensures answer { λ r. ⌜ r ≡ yesOf (firstFault (now (tables .entry)) (now (sheet .entry))) ⌝ }

@@ -1,4 +1,4 @@
-// Krc's codegen/generation.rs, the frame: `var_offsets` and `func_prologue`.
+// This is the frame of Krc's codegen/generation.rs: `var_offsets` and `func_prologue`.
 use cells::Cursor;
 use codegen::registers::Taken;
 use codegen::registers::param_register;
@@ -50,7 +50,7 @@ ghost use Rattle.codegen.specs.Excess.{ifBeyond};
 ghost use Rattle.frame.specs.Sizes.{totalOf, sizesAt, typedOf, offsetsAfter};
 ghost use Rattle.frame.specs.Stores.{entering, paramOf, storeOne, storeParam, lookCopied, copiedOf, copyOne};
 
-// What the variables' types come to: the last offset and the cursor behind them, or the first wrong cell.
+// The variables' types come to the last offset and the cursor behind them, or to the first wrong cell.
 pub enum Typed {
     Sized(Number, Cursor),
     Wrong(u64, usize),
@@ -62,7 +62,7 @@ fn has_width(code: u64) -> bool
     element_width(code) != 0
 }
 
-// The last offset; refusal 4 where a variable has no width.
+// It gives the last offset, or refusal 4 where a variable has no width.
 fn total_of(widths: bool, end: u64) -> Number
     ensures { λ r. ⌜ r ≡ totalOf widths end ⌝ }
 {
@@ -73,7 +73,7 @@ fn total_of(widths: bool, end: u64) -> Number
     }
 }
 
-// The offset of a variable behind one of offset `end`: a multiple of its element's width. A division by a constant is a shift.
+// The offset of a variable behind one of offset `end` is a multiple of its element's width. A division by a constant is a shift.
 fn offset_behind(end: u64, ty: Type) -> u64
     requires { ⌜ end ≤ 1048576 ⌝ }
     ensures { λ r. ⌜ r ≡ offsetBehind end ty ⌝ }
@@ -89,8 +89,8 @@ fn offset_behind(end: u64, ty: Type) -> u64
     }
 }
 
-// The `n` variable types from a cursor on, and the offset of each variable. The offset stays within its limit: the count cell of the variable that first
-// passes it is refused. The numbers from the first wrong type's on stay as they were.
+// It reads the `n` variable types from a cursor on, and computes the offset of each variable. The offset stays within its limit: the count cell of the
+// variable that first passes it is refused. The numbers from the first wrong type's on stay as they were.
 pub fn var_offsets(s: &[u8], n: u64, c: Cursor, offsets: &mut [u64; 256]) -> Typed
     requires { ⌜ n ≤ 256 ⌝ }
     requires { ⌜ length (now offsets) ≡ 256 ⌝ }
@@ -153,7 +153,7 @@ fn put_param(out: &mut [u8], at: usize, t: Slot, op: BinOp, reg: Register)
     );
 }
 
-// A parameter, from the register of its rank into its slot.
+// A parameter goes from the register of its rank into its slot.
 fn store_one(
     tables: &[u8],
     offsets: &[u64],
@@ -178,7 +178,7 @@ fn store_one(
     }
 }
 
-// No record for a parameter of the other kind, or where no register is left: that one is in excess.
+// There is no record for a parameter of the other kind, or where no register is left: that one is in excess.
 fn store_param(
     tables: &[u8],
     offsets: &[u64],
@@ -202,7 +202,7 @@ fn store_param(
     store_one(tables, offsets, float, k, p, out, at, write)
 }
 
-// The stores of the parameters that are floats, or of those that are not, among `n` from cell `from` on.
+// It stores the parameters that are floats, or those that are not, among `n` from cell `from` on.
 fn store_params(
     tables: &[u8],
     offsets: &[u64],
@@ -353,7 +353,7 @@ fn copy_params(
     CountResult::Records(2 * taken.stack)
 }
 
-// `push rbp ; mov rbp, rsp ; sub rsp, bytes`, at the start.
+// It writes `push rbp ; mov rbp, rsp ; sub rsp, bytes` at the start.
 fn put_enter(out: &mut [u8], bytes: u64)
     requires { ⌜ 192 ≤ length (now out) ⌝ }
     ensures { λ _. ⌜ now (out .exit) ≡ write (now (out .entry)) 0 (listBytes (entering bytes)) ⌝ }

@@ -1,4 +1,4 @@
-// Krc's codegen/instructions.rs, but for casts and calls: the records of one instruction, counted or written.
+// This is Krc's codegen/instructions.rs, but for casts and calls: the records of one instruction are counted or written.
 use cells::cell_at;
 use ir::Type;
 use ir::read::type_at;
@@ -42,7 +42,7 @@ ghost use Rattle.utils.specs.Answers.{lent};
 ghost use Rattle.utils.specs.Makes.{Makes, Ready};
 ghost use Rattle.instructions.specs.Looks.{returnRegister, movedOf, zeroedSays, lookZero, zeroOf, branchSays, lookBranch, branchOf};
 
-// A condition's source and a label.
+// The look-ups find a condition's source and a label.
 pub struct Branch {
     pub src: Operand,
     pub label: u64,
@@ -53,7 +53,7 @@ pub enum BranchResult {
     Refused(u64),
 }
 
-// The bytes of a variable, and its slot.
+// The look-ups find the bytes of a variable, and its slot.
 pub struct Zeroed {
     pub bytes: u64,
     pub var: Operand,
@@ -64,7 +64,7 @@ pub enum ZeroedResult {
     Refused(u64),
 }
 
-// `mov rsp, rbp ; pop rbp ; ret`
+// It writes `mov rsp, rbp ; pop rbp ; ret`.
 pub fn func_epilogue(out: &mut [u8], at: usize)
     requires { ⌜ at + 192 ≤ length (now out) ⌝ }
     ensures { λ _. ⌜ now (out .exit) ≡ write (now (out .entry)) at (listBytes funcEpilogue) ⌝ }
@@ -101,7 +101,7 @@ fn return_register(ret: Type) -> Register
     }
 }
 
-// A load, then the epilogue.
+// It makes a load, then the epilogue.
 pub fn generate_return(
     tables: &[u8],
     offsets: &[u64],
@@ -136,7 +136,7 @@ pub fn generate_return(
 
 // ---- copies
 
-// A load of the source by `by`, and the store of RAX to a slot.
+// It loads the source by the size `by`, and stores RAX to a slot.
 pub fn put_moved(out: &mut [u8], at: usize, src: Operand, by: Size, t: Slot)
     requires { ⌜ at + 128 ≤ length (now out) ⌝ }
     ensures { λ _. ⌜ now (out .exit) ≡ write (now (out .entry)) at (listBytes (movedOf src by t)) ⌝ }
@@ -147,7 +147,7 @@ pub fn put_moved(out: &mut [u8], at: usize, src: Operand, by: Size, t: Slot)
     put_instruction(out, at + 64, mov(var, Operand::Reg(Register::RAX), size));
 }
 
-// `dest = src`, sized by dest.
+// It makes `dest = src`, sized by dest.
 pub fn generate_copy(
     tables: &[u8],
     offsets: &[u64],
@@ -233,7 +233,7 @@ fn put_zero(out: &mut [u8], at: usize, t: Zeroed)
     );
 }
 
-// `lea rdi, [dest] ; mov rcx, size ; mov rax, 0 ; rep stosb`
+// It makes `lea rdi, [dest] ; mov rcx, size ; mov rax, 0 ; rep stosb`.
 pub fn generate_zero(
     tables: &[u8],
     offsets: &[u64],
@@ -260,7 +260,7 @@ pub fn generate_zero(
 
 // ---- labels and jumps
 
-// `ctx.labels[id]`, of so many labels.
+// It is `ctx.labels[id]`, of so many labels.
 fn label_at(labels: u64, id: u64) -> Number
     ensures { λ r. ⌜ numberSays r ≡ labelAt labels id ⌝ }
 {
@@ -348,7 +348,7 @@ fn put_branch(out: &mut [u8], at: usize, t: Branch)
     );
 }
 
-// `mov al, cond ; cmp al, 0 ; je target`
+// It makes `mov al, cond ; cmp al, 0 ; je target`.
 pub fn generate_jmp_if_not(
     tables: &[u8],
     offsets: &[u64],

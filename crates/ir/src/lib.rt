@@ -1,9 +1,9 @@
-// Krc's intermediate form, as far as the lowering reads it: types, variables, operands and instructions, with the tables and the sheet that hold
+// This is Krc's intermediate form, as far as the lowering reads it: types, variables, operands and instructions, with the tables and the sheet that hold
 // them in cells. Krc's `String`, `Vec` and `Box` are cells here: a text is its number, a nested array one element code and the product of the counts.
 pub mod read;
 pub mod types;
 
-// Krc's `Type`: an element code from 1 to 12, and a count, which is the pattern of -1 where the type is no array. As a return type code 0 is none.
+// Krc's `Type` is an element code from 1 to 12, and a count, which is the pattern of -1 where the type is no array. As a return type code 0 is none.
 pub struct Type {
     pub code: u64,
     pub count: u64,
@@ -16,7 +16,7 @@ pub struct VarId {
 
 pub enum Operand {
     Var(VarId),
-    // A two's complement pattern, whether it is short, and whether it is unsigned.
+    // An Int has a two's complement pattern, whether it is short, and whether it is unsigned.
     Int(u64, bool, bool),
     Float(u64),
     Bool(bool),
@@ -31,7 +31,7 @@ pub enum UnaryOp {
     Not,
 }
 
-// A call's destination: Krc's `Option<VarId>`.
+// A call's destination is Krc's `Option<VarId>`.
 pub enum Dest {
     Nothing,
     Var(VarId),

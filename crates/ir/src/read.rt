@@ -1,4 +1,4 @@
-// The parts of a sheet, read at the number of their first cell. The sheet has the cells: whoever calls has checked its layout.
+// The parts of a sheet are read at the number of their first cell. The sheet has the cells: whoever calls has checked its layout.
 use crate::Dest;
 use crate::Instr;
 use crate::Operand;
@@ -73,7 +73,7 @@ pub fn dest_at(s: &[u8], k: usize) -> Dest
     }
 }
 
-// The instruction in 13 cells: its kind, the operation, dest, left and right.
+// An instruction is 13 cells: its kind, the operation, dest, left and right.
 pub fn instr_at(s: &[u8], k: usize) -> Instr
     requires { ⌜ k + 13 ≤ cells (now s) ⌝ }
     ensures { λ r. ⌜ r ≡ instrAt (now (s .entry)) k ⌝ }
@@ -116,7 +116,7 @@ pub fn instr_at(s: &[u8], k: usize) -> Instr
     }
 }
 
-// The cell behind an instruction and its arguments.
+// It gives the cell behind an instruction and its arguments.
 pub fn behind(s: &[u8], k: usize) -> usize
     requires { ⌜ behind (now s) k ≤ cells (now s) ⌝ }
     ensures { λ r. ⌜ r ≡ behind (now (s .entry)) k ⌝ }
@@ -128,7 +128,7 @@ pub fn behind(s: &[u8], k: usize) -> usize
     }
 }
 
-// The cell of the first instruction.
+// It gives the cell of the first instruction.
 pub fn body_from(s: &[u8]) -> usize
     requires { ⌜ bodyFrom (now s) ≤ cells (now s) ⌝ }
     ensures { λ r. ⌜ r ≡ bodyFrom (now (s .entry)) ⌝ }

@@ -1,4 +1,4 @@
-// Krc's answers on types and operands.
+// These are Krc's answers on types and operands.
 use crate::Operand;
 use crate::Type;
 use x86::enums::Size;
@@ -7,16 +7,16 @@ ghost use Prim.Native.Nat.{_≤_};
 ghost use Rattle.ir.specs.Types.{isScalar, elementWidth, bytes, typeSize, isFloat, isUnsigned, elfSize, operandSize};
 ghost use Rattle.ir.specs.Answers.{numberSays};
 
-// A number, or the number of a refusal.
+// It has a number, or the number of a refusal.
 pub enum Number {
     Is(u64),
     Refused(u64),
 }
 
-// The bytes of an element, by its code: four bits of a number for each.
+// The bytes of an element stand here by its code, four bits of a number for each.
 const WIDTHS: u64 = 0x811_1484_4880;
 
-// 0 for what has no width.
+// What has no width gives 0.
 pub fn element_width(code: u64) -> u64
     ensures { λ r. ⌜ (r ≡ elementWidth code) × (r ≤ 8) ⌝ }
 {
@@ -35,7 +35,7 @@ impl Type {
         self.count == Type::NO_ARRAY
     }
 
-    // The bytes of a variable; 0 where the type has no width.
+    // It gives the bytes of a variable, and 0 where the type has no width.
     pub fn bytes(self) -> u64
         ensures { λ r. ⌜ (r ≡ bytes self) × (r ≤ 8388608) ⌝ }
     {

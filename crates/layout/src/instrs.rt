@@ -1,4 +1,4 @@
-// Instructions: position in Krc's `Instr`, operation, dest (3), left (4), right (4); a call's arguments follow.
+// An instruction is its position in Krc's `Instr`, its operation, dest (3 cells), left (4) and right (4); a call's arguments follow.
 use crate::Checked;
 use crate::Limited;
 use crate::parts::LARGEST;
@@ -12,7 +12,7 @@ use cells::Cursor;
 ghost use mathlib.Core.Path.{_≡_};
 ghost use Rattle.layout.specs.Layout.{operationMost, hasDest, hasLeft, destCheck, sideCheck, callCheck, bodyCheck, instrCheck};
 
-// The largest operation of a kind.
+// It gives the largest operation of a kind.
 pub(crate) fn operation_most(kind: u64) -> u64
     ensures { λ r. ⌜ r ≡ operationMost kind ⌝ }
 {
@@ -86,7 +86,7 @@ fn call_check(s: &[u8], c: Cursor) -> Checked
     }
 }
 
-// Left and right of a kind, behind the dest.
+// It checks left and right of a kind, behind the dest.
 fn body_check(s: &[u8], kind: u64, c: Cursor) -> Checked
     ensures { λ r. ⌜ r ≡ bodyCheck (now (s .entry)) kind c ⌝ }
 {
@@ -99,7 +99,7 @@ fn body_check(s: &[u8], kind: u64, c: Cursor) -> Checked
     }
 }
 
-// One instruction with its arguments.
+// It checks one instruction with its arguments.
 pub fn instr_check(s: &[u8], c: Cursor) -> Checked
     ensures { λ r. ⌜ r ≡ instrCheck (now (s .entry)) c ⌝ }
 {

@@ -1,4 +1,4 @@
-// The layout of tables and sheet: the first wrong cell in reading order, with refusal 1, 2 or 3.
+// The layout of tables and sheet is checked here. The first wrong cell in reading order is refused by 1, 2 or 3.
 mod accepts;
 pub mod instrs;
 pub mod lists;
@@ -7,13 +7,13 @@ pub mod tables;
 
 use cells::Cursor;
 
-// What reading a cell with a limit finds: the cell and the cursor behind it, or the refusal's number and cell.
+// Reading a cell with a limit finds the cell and the cursor behind it, or the refusal's number and cell.
 pub enum Limited {
     Word(u64, Cursor),
     Refused(u64, usize),
 }
 
-// What checking a part of a layout finds: the cursor behind it, or the refusal's number and cell.
+// Checking a part of a layout finds the cursor behind it, or the refusal's number and cell.
 pub enum Checked {
     Behind(Cursor),
     Refused(u64, usize),

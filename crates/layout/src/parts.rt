@@ -1,4 +1,4 @@
-// Cells, types, variables and operands of a sheet.
+// The cells, types, variables and operands of a sheet are checked here.
 use crate::Checked;
 use crate::Limited;
 use cells::Cell;
@@ -7,10 +7,10 @@ use ir::Type;
 ghost use mathlib.Core.Path.{_≡_};
 ghost use Rattle.layout.specs.Layout.{endCheck, limited, countCheck, zerosCheck, fieldsCheck, typeCheck, returnCheck, varCheck, firstField, flagField, operandCheck, operandsCheck};
 
-// The largest number that is not negative.
+// This is the largest number that is not negative.
 pub(crate) const LARGEST: u64 = 0x7fff_ffff_ffff_ffff;
 
-// The largest count of an array, and the largest offset of a variable.
+// This is the largest count of an array, and the largest offset of a variable.
 pub const MOST_BYTES: u64 = 1048576;
 
 // Nothing is left behind the cursor, not even a torn cell.
@@ -29,7 +29,7 @@ pub fn end_check(number: u64, s: &[u8], c: Cursor) -> Checked
     Checked::Behind(c)
 }
 
-// A count: negative is off the layout, above its limit oversize.
+// A count that is negative is off the layout, and one above its limit is oversize.
 pub fn limited(s: &[u8], c: Cursor, most: u64) -> Limited
     ensures { λ r. ⌜ r ≡ limited (now (s .entry)) c most ⌝ }
 {
@@ -44,7 +44,7 @@ pub fn limited(s: &[u8], c: Cursor, most: u64) -> Limited
     }
 }
 
-// The count of a type: -1 for no array, or from 0 to its limit.
+// The count of a type is -1 for no array, or from 0 to its limit.
 fn count_check(s: &[u8], c: Cursor) -> Checked
     ensures { λ r. ⌜ r ≡ countCheck (now (s .entry)) c ⌝ }
 {
@@ -65,7 +65,7 @@ fn count_check(s: &[u8], c: Cursor) -> Checked
     }
 }
 
-// `n` unused cells.
+// It checks `n` unused cells.
 pub(crate) fn zeros_check(s: &[u8], n: u64, c: Cursor) -> Checked
     ensures { λ r. ⌜ r ≡ zerosCheck (now (s .entry)) n c ⌝ }
 {
@@ -85,7 +85,7 @@ pub(crate) fn zeros_check(s: &[u8], n: u64, c: Cursor) -> Checked
     Checked::Behind(here)
 }
 
-// Three cells, each from 0 to its own bound.
+// Each of three cells is from 0 to its own bound.
 fn fields_check(s: &[u8], c: Cursor, x: u64, y: u64, z: u64) -> Checked
     ensures { λ r. ⌜ r ≡ fieldsCheck (now (s .entry)) c x y z ⌝ }
 {
@@ -139,7 +139,7 @@ pub(crate) fn var_check(s: &[u8], c: Cursor) -> Checked
     }
 }
 
-// The bounds of an operand's fields, by its position in Krc's `Operand`.
+// It gives the bound of an operand's first field, by its position in Krc's `Operand`.
 pub(crate) fn first_field(kind: u64) -> u64
     ensures { λ r. ⌜ r ≡ firstField kind ⌝ }
 {

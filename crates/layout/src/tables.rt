@@ -1,4 +1,4 @@
-// The tables: a string count from 0 to 256, then one cell a float, 1 short or 0 long, at most 256.
+// The tables are a string count from 0 to 256, then one cell a float, 1 short or 0 long, at most 256.
 use crate::Checked;
 use crate::parts::end_check;
 use cells::Cell;
@@ -6,7 +6,7 @@ use cells::Cursor;
 ghost use mathlib.Core.Path.{_≡_};
 ghost use Rattle.layout.specs.Layout.{floatsCheck, tablesCheck};
 
-// At most `n` floats from the cursor on.
+// It checks at most `n` floats from the cursor on.
 fn floats_check(t: &[u8], n: u64, c: Cursor) -> Checked
     ensures { λ r. ⌜ r ≡ floatsCheck (now (t .entry)) n c ⌝ }
 {

@@ -1,4 +1,5 @@
-// The work of the listing program: the whole text for an input, made on lent bytes. The lines are those of `text`, the records those of `generation`.
+// The work of the listing program is done here: the whole text for an input is made on lent bytes. The lines are those of `text`, the records those of
+// `generation`.
 use generation::Answer;
 use generation::generate;
 use text::input::Parts;
@@ -12,7 +13,7 @@ ghost use Rattle.codegen.specs.Generation.{lowered, recordsAfter};
 ghost use Rattle.text.specs.Text.{Put, Counts};
 ghost use Rattle.listing.specs.Listing.{answerLines, listingText, listingRecords};
 
-// Lowers tables and sheet into the record bytes, and makes the text for the answer; its own answer is the text's length.
+// It lowers tables and sheet into the record bytes, and makes the text for the answer; its own answer is the text's length.
 fn list_parts(
     tables: &[u8],
     sheet: &[u8],
@@ -29,7 +30,7 @@ fn list_parts(
     }
 }
 
-// The whole text for an input, at the start of `text`; the answer is its length. The text fits for every input.
+// It makes the whole text for an input at the start of `text`; the answer is its length. The text fits for every input.
 pub fn list(input: &[u8], records: &mut [u8; 65536], text: &mut [u8; 65536]) -> usize
     ensures { λ _. ⌜ now (records .exit) ≡ listingRecords (now (input .entry)) (now (records .entry)) ⌝ }
     ensures { λ r. ⌜ Put (now (text .entry)) 0 (listingText (now (input .entry))) r (now (text .exit)) ⌝ }

@@ -1,11 +1,12 @@
-// The listing program: cells from standard input, text to standard output. It only reads and writes; `lister::list` makes the text and is proved to.
+// The listing program takes cells from standard input and writes text to standard output. It only reads and writes; `lister::list` makes the text and is
+// proved to.
 mod lister;
 
 use crate::lister::list;
 ghost use mathlib.Core.Path.{_≡_};
 ghost use lib.ListN.{length};
 
-// One byte more than an input may have. The `ensures` gives the length, which lending the array as a slice needs.
+// There is room for one byte more than an input may have. The `ensures` gives the length, which lending the array as a slice needs.
 fn room() -> [u8; 65537]
     ensures { λ r. ⌜ 65537 ≡ length r ⌝ }
 {

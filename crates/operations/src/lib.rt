@@ -1,4 +1,4 @@
-// Krc's codegen/arithmetic.rs, binary operations that are no comparisons: their records, counted or written.
+// These are the binary operations of Krc's codegen/arithmetic.rs that are no comparisons: their records are counted or written.
 use ir::read::type_at;
 use records::put_complex_binary;
 use records::put_instruction;
@@ -34,7 +34,7 @@ ghost use Rattle.utils.specs.Answers.{operandSays, lent};
 ghost use Rattle.utils.specs.Makes.{Makes, Ready};
 ghost use Rattle.operations.specs.Loads.{sidesSay, rightOf, lookSides, oneLoadOf, middleOf, twoLoadsOf};
 
-// Left's source, right, dest's slot and dest's size.
+// The look-ups find left's source, right, dest's slot and dest's size.
 pub struct Sides {
     pub left: Operand,
     pub right: Operand,
@@ -47,13 +47,13 @@ pub enum SidesResult {
     Refused(u64),
 }
 
-// The one record between two loads and the store: a product, or a shift.
+// Between two loads and the store there is one record, a product or a shift.
 pub enum Middle {
     Multiply,
     Shift(ShiftOp),
 }
 
-// What right is found as: where it is loaded too its source, or else an operand of the operation itself.
+// Right is found as its source where it is loaded too, or else as an operand of the operation itself.
 fn right_at(tables: &[u8], offsets: &[u64], s: &[u8], k: usize, loaded: bool) -> OperandResult
     requires { ⌜ k + 4 ≤ cells (now s) ⌝ }
     ensures { λ r. ⌜ operandSays r ≡ rightOf loaded (lent (now (tables .entry)) (now (offsets .entry))) (operandAt (now (s .entry)) k) ⌝ }
@@ -123,7 +123,7 @@ fn put_one_load(out: &mut [u8], at: usize, t: Sides, reg: Register, op: BinOp, s
     );
 }
 
-// `mov rax, left ; op rax, right ; mov [dest], rax`
+// It makes `mov rax, left ; op rax, right ; mov [dest], rax`.
 pub fn simple_operation(
     tables: &[u8],
     offsets: &[u64],
@@ -149,7 +149,7 @@ pub fn simple_operation(
     }
 }
 
-// `movsd xmm0, left ; op xmm0, right ; movsd [dest], xmm0`
+// It makes `movsd xmm0, left ; op xmm0, right ; movsd [dest], xmm0`.
 pub fn float_operation(
     tables: &[u8],
     offsets: &[u64],
@@ -175,7 +175,7 @@ pub fn float_operation(
     }
 }
 
-// Cdq for four bytes, else Cqo.
+// It gives Cdq for four bytes, else Cqo.
 fn sign_into(size: Size) -> UnaryOp
     ensures { λ r. ⌜ r ≡ signInto size ⌝ }
 {
@@ -188,7 +188,7 @@ fn sign_into(size: Size) -> UnaryOp
     }
 }
 
-// RDX and RAX divided by RCX.
+// RDX and RAX are divided by RCX.
 fn divide(op: ComplexBinOp, size: Size) -> Instruction
     ensures { λ r. ⌜ r ≡ Instruction.ComplexBinary op Operand.NoOperand (Operand.Reg RCX) size ⌝ }
 {
@@ -273,7 +273,7 @@ pub fn division(
     }
 }
 
-// RAX and RCX, multiplied or shifted into RAX.
+// RAX and RCX are multiplied, or shifted, into RAX.
 fn put_middle(out: &mut [u8], at: usize, middle: Middle, size: Size)
     requires { ⌜ at + 64 ≤ length (now out) ⌝ }
     ensures { λ _. ⌜ now (out .exit) ≡ write (now (out .entry)) at (recordBytes (recordOf (middleOf middle size))) ⌝ }

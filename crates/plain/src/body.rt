@@ -1,4 +1,4 @@
-// The body: how often each label stands, and the first instruction at fault.
+// Of the body it is found here how often each label stands, and the first instruction at fault.
 use crate::Plainness;
 use crate::instrs::is_plain_instr;
 use cells::cell_at;
@@ -16,7 +16,7 @@ ghost use Rattle.ir.specs.Function.{functionOf};
 ghost use Rattle.layout.specs.Layout.{Laid};
 ghost use Rattle.plain.specs.Parts.{areNamed, Counts, Few, oneMore, firstOf};
 
-// Counts a label that stands.
+// It counts a label that stands.
 fn count_label(counts: &mut [u16; 256], instr: Instr)
     requires { ⌜ Few (now counts) ⌝ }
     ensures { λ _. ⌜ now (counts .exit) ≡ oneMore instr (now (counts .entry)) ⌝ }
@@ -31,7 +31,7 @@ fn count_label(counts: &mut [u16; 256], instr: Instr)
     counts[k] += 1;
 }
 
-// How often each label stands in the body; `counts` are all 0 at first.
+// It counts how often each label stands in the body; `counts` are all 0 at first.
 pub fn count_labels(sheet: &[u8], counts: &mut [u16; 256])
     requires { ⌜ Laid (now sheet) ⌝ }
     requires { ⌜ Counts [] (now counts) ⌝ }
@@ -47,7 +47,7 @@ pub fn count_labels(sheet: &[u8], counts: &mut [u16; 256])
     }
 }
 
-// The first fault among the first `n` instructions; `counts` has how often each label stands in the body.
+// It finds the first fault among the first `n` instructions; `counts` has how often each label stands in the body.
 pub fn first_fault(sheet: &[u8], counts: &[u16; 256], n: u64) -> Plainness
     requires { ⌜ Laid (now sheet) ⌝ }
     requires { ⌜ Counts (functionOf (now sheet) .body) (now counts) ⌝ }

@@ -1,4 +1,4 @@
-// Variables, parameters and the return type.
+// Variables, parameters and the return type are tested here.
 use crate::vars::is_plain_code;
 use crate::vars::is_plain_return;
 use crate::vars::is_scalar_var;
@@ -12,7 +12,7 @@ ghost use Rattle.ir.specs.Function.{functionOf, typesAt, varsAt, paramsFrom, bo
 ghost use Rattle.machine.specs.Plain.{every, isScalarVar, isAbsent, areDistinct, isPlainHead};
 ghost use Rattle.plain.specs.Parts.{hasPlainCode};
 
-// `n` types from cell `from` on have plain codes.
+// It says whether `n` types from cell `from` on have plain codes.
 fn are_plain_types(sheet: &[u8], n: u64, from: usize) -> bool
     requires { ⌜ from + 2 * n ≤ cells (now sheet) ⌝ }
     ensures { λ r. ⌜ r ≡ every hasPlainCode (typesAt (now (sheet .entry)) n from) ⌝ }
@@ -30,7 +30,7 @@ fn are_plain_types(sheet: &[u8], n: u64, from: usize) -> bool
     true
 }
 
-// None of `n` parameters from cell `from` on has the id `x`.
+// It says whether none of `n` parameters from cell `from` on has the id `x`.
 fn is_absent(sheet: &[u8], x: u64, n: u64, from: usize) -> bool
     requires { ⌜ from + 3 * n ≤ cells (now sheet) ⌝ }
     ensures { λ r. ⌜ r ≡ isAbsent x (varsAt (now (sheet .entry)) n from) ⌝ }
@@ -65,7 +65,7 @@ fn are_distinct(sheet: &[u8], n: u64, from: usize) -> bool
     true
 }
 
-// `n` parameters from cell `from` on have their entries' types, and are no arrays.
+// It says whether `n` parameters from cell `from` on have their entries' types, and are no arrays.
 fn are_scalar_vars(sheet: &[u8], n: u64, from: usize) -> bool
     requires { ⌜ paramsFrom (now sheet) ≤ cells (now sheet) ⌝ }
     requires { ⌜ from + 3 * n ≤ cells (now sheet) ⌝ }
@@ -84,7 +84,7 @@ fn are_scalar_vars(sheet: &[u8], n: u64, from: usize) -> bool
     true
 }
 
-// Any number of parameters, ids distinct, none an array.
+// There may be any number of parameters; their ids are distinct, and none is an array.
 pub fn is_plain_head(sheet: &[u8]) -> bool
     requires { ⌜ bodyFrom (now sheet) ≤ cells (now sheet) ⌝ }
     ensures { λ r. ⌜ r ≡ isPlainHead (functionOf (now (sheet .entry))) ⌝ }

@@ -1,4 +1,4 @@
-// Instructions.
+// Instructions are tested here.
 use crate::operands::is_bool;
 use crate::operands::is_plain_operand;
 use crate::operands::is_same;
@@ -24,7 +24,7 @@ ghost use Rattle.machine.specs.Steps.{width};
 ghost use Rattle.machine.specs.Plain.{isOneByte, isPlainBinary, isPlainCast, isPlainInstr};
 ghost use Rattle.plain.specs.Parts.{isSame, isPlainMove, isPlainPair, isWide, isCondition, labelOf, Counts};
 
-// BitOr, BitXor, BitAnd, Add and Sub: a long constant as right has four bytes.
+// For BitOr, BitXor, BitAnd, Add and Sub a long constant as right has four bytes.
 fn is_plain_sum(d: VarId, x: Operand, y: Operand) -> bool
     ensures { λ r. ⌜ r ≡ isPlainBinary (binaryOp 2) d x y ⌝ }
 {
@@ -46,8 +46,8 @@ fn is_plain_mul(d: VarId, x: Operand) -> bool
     }
 }
 
-// What an operation asks of its operands: 0 and 1 are the logical pair, 2 to 4 the bit operations, 5 to 10 the comparisons, 11 and 12 the
-// shifts, then Add, Sub, Mul, Div and Rem.
+// An operation asks this of its operands: 0 and 1 are the logical pair, 2 to 4 the bit operations, 5 to 10 the comparisons, 11 and 12 the shifts, then
+// Add, Sub, Mul, Div and Rem.
 fn is_plain_binary(op: u64, d: VarId, x: Operand, y: Operand) -> bool
     ensures { λ r. ⌜ r ≡ isPlainBinary (binaryOp op) d x y ⌝ }
 {
@@ -64,7 +64,7 @@ fn is_plain_binary(op: u64, d: VarId, x: Operand, y: Operand) -> bool
     }
 }
 
-// From four bytes to eight only for a dest of code 1 or 2.
+// From four bytes to eight a cast is plain only for a dest of code 1 or 2.
 fn is_wide(d: VarId, x: Operand) -> bool
     ensures { λ r. ⌜ r ≡ isWide d x ⌝ }
 {
@@ -99,7 +99,7 @@ fn is_plain_cast(d: VarId, x: Operand) -> bool
     }
 }
 
-// A dest and an operand that are plain.
+// Dest and operand are plain.
 fn is_plain_pair(sheet: &[u8], d: VarId, x: Operand) -> bool
     requires { ⌜ paramsFrom (now sheet) ≤ cells (now sheet) ⌝ }
     ensures { λ r. ⌜ r ≡ isPlainPair (functionOf (now (sheet .entry))) d x ⌝ }

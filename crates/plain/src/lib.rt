@@ -1,4 +1,4 @@
-// The plain test where the lowering's answer is known (01, "Plain integer functions"): the conditions on head and body, and the first fault.
+// This is the plain test where the lowering's answer is known (01, "Plain integer functions"): the conditions on head and body, and the first fault.
 mod body;
 mod head;
 mod instrs;
@@ -23,14 +23,14 @@ ghost use Rattle.machine.specs.Plain.{firstFault};
 ghost use Rattle.plain.specs.Answers.{plainSays};
 ghost use Rattle.plain.specs.Parts.{areNamed, verdict, Accepts, Refuses};
 
-// Yes, or no with the first number at fault: 0 for variables, parameters, the return type and a refusal that has no instruction, else the
+// It is yes, or no with the first number at fault: 0 for variables, parameters, the return type and a refusal that has no instruction, else the
 // instruction's number.
 pub enum Plainness {
     Yes,
     No(u64),
 }
 
-// The first fault among the head and the first `n` instructions.
+// It finds the first fault among the head and the first `n` instructions.
 fn conditions(sheet: &[u8], n: u64) -> Plainness
     requires { ⌜ Laid (now sheet) ⌝ }
     requires { ⌜ n ≤ cellAt (now sheet) 5 ⌝ }
@@ -45,7 +45,7 @@ fn conditions(sheet: &[u8], n: u64) -> Plainness
     first_fault(sheet, &counts, n)
 }
 
-// Of a sheet that the lowering accepts.
+// It is the plain test of a sheet that the lowering accepts.
 pub fn plain_accepted(sheet: &[u8]) -> Plainness
     requires { ⌜ Accepts (now sheet) ⌝ }
     ensures { λ r. ⌜ ((t : List ℕ) (is : List Instruction) → compiled t (now (sheet .entry)) ≡ accepted is → plainSays r ≡ firstFault t (now (sheet .entry))) ⌝ }
@@ -53,7 +53,7 @@ pub fn plain_accepted(sheet: &[u8]) -> Plainness
     conditions(sheet, cell_at(sheet, 5))
 }
 
-// Of a sheet that the lowering refuses: a condition that is broken before the refusal's place comes first.
+// It is the plain test of a sheet that the lowering refuses: a condition that is broken before the refusal's place comes first.
 pub fn plain_refused(sheet: &[u8], number: u64, place: u64) -> Plainness
     requires { ⌜ Refuses (now sheet) number place ⌝ }
     ensures { λ r. ⌜ ((t : List ℕ) → compiled t (now (sheet .entry)) ≡ refused number place → plainSays r ≡ firstFault t (now (sheet .entry))) ⌝ }

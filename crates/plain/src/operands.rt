@@ -1,4 +1,4 @@
-// Operands and constants.
+// Operands and constants are tested here.
 use crate::vars::is_bool_type;
 use crate::vars::is_scalar_var;
 use ir::Operand;
@@ -11,21 +11,21 @@ ghost use Rattle.machine.specs.Steps.{width};
 ghost use Rattle.machine.specs.Plain.{isShort, isSmall, isPlainOperand, longConstant, isBool};
 ghost use Rattle.plain.specs.Parts.{isPlainConstant, isSame};
 
-// The pattern of a number from -2^31 to 2^32 - 1.
+// It says whether this is the pattern of a number from -2^31 to 2^32 - 1.
 fn is_short(v: u64) -> bool
     ensures { λ r. ⌜ r ≡ isShort v ⌝ }
 {
     std::num::wrapping_add_u64(v, 0x8000_0000) < 0x1_8000_0000
 }
 
-// The pattern of a number from -2^31 to 2^31 - 1.
+// It says whether this is the pattern of a number from -2^31 to 2^31 - 1.
 fn is_small(v: u64) -> bool
     ensures { λ r. ⌜ r ≡ isSmall v ⌝ }
 {
     std::num::wrapping_add_u64(v, 0x8000_0000) < 0x1_0000_0000
 }
 
-// No float constant, string address or Address; short constants have four bytes.
+// A plain constant is no float constant, string address or Address; a short one has four bytes.
 fn is_plain_constant(x: Operand) -> bool
     ensures { λ r. ⌜ r ≡ isPlainConstant x ⌝ }
 {
@@ -80,7 +80,7 @@ pub fn is_bool(x: Operand) -> bool
     }
 }
 
-// A variable's bytes, Int 4 or 8 by its flag, Bool 1, Null 8.
+// A variable has its bytes, an Int 4 or 8 by its flag, a Bool 1, Null 8.
 pub fn width(x: Operand) -> u64
     ensures { λ r. ⌜ r ≡ width x ⌝ }
 {

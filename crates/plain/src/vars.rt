@@ -1,4 +1,4 @@
-// Types and variables.
+// Types and variables are tested here.
 use cells::cell_at;
 use ir::Type;
 use ir::VarId;
@@ -9,7 +9,7 @@ ghost use Rattle.cells.specs.Cells.{cells};
 ghost use Rattle.ir.specs.Function.{functionOf, paramsFrom};
 ghost use Rattle.machine.specs.Plain.{isPlainCode, isPlainReturn, sameType, isEntry, isScalarVar, isBoolType, isOneByte};
 
-// An integer, Bool, Char, Byte or Address.
+// A plain code is that of an integer, Bool, Char, Byte or Address.
 pub fn is_plain_code(code: u64) -> bool
     ensures { λ r. ⌜ r ≡ isPlainCode code ⌝ }
 {
@@ -20,7 +20,7 @@ pub fn is_plain_code(code: u64) -> bool
     }
 }
 
-// None, or no array of a plain code or Null.
+// A plain return type is none, or no array and of a plain code or Null.
 pub fn is_plain_return(ty: Type) -> bool
     ensures { λ r. ⌜ r ≡ isPlainReturn ty ⌝ }
 {
@@ -64,7 +64,7 @@ pub fn is_entry(sheet: &[u8], v: VarId) -> bool
     }
 }
 
-// .. and is no array.
+// A variable's own type equals its entry and is no array.
 pub fn is_scalar_var(sheet: &[u8], v: VarId) -> bool
     requires { ⌜ paramsFrom (now sheet) ≤ cells (now sheet) ⌝ }
     ensures { λ r. ⌜ r ≡ isScalarVar (functionOf (now (sheet .entry))) v ⌝ }

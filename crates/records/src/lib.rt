@@ -10,7 +10,7 @@ ghost use Rattle.cells.specs.Cells.{write};
 ghost use Rattle.x86.specs.Records.{cellsRecord, recordWith, recordOf, recordBytes};
 ghost use Rattle.records.specs.Forms.{putOf};
 
-// Writes eight cells from `at`; every other byte stays.
+// It writes eight cells from `at`; every other byte stays.
 fn put_words(
     out: &mut [u8],
     at: usize,
@@ -36,7 +36,7 @@ fn put_words(
     cells::put_word(out, at + 56, src_size);
 }
 
-// Writes the record with a form, an operation, two operands and two sizes from `at`; every other byte stays.
+// It writes the record with a form, an operation, two operands and two sizes from `at`; every other byte stays.
 fn put_form(
     out: &mut [u8],
     at: usize,
@@ -302,7 +302,7 @@ pub fn put_unary(out: &mut [u8], at: usize, i: Instruction)
 
 // ---- any instruction
 
-// Writes the record of an instruction from `at`; every other byte stays.
+// It writes the record of an instruction from `at`; every other byte stays.
 pub fn put_other(out: &mut [u8], at: usize, i: Instruction)
     requires { ⌜ at + 64 ≤ length (now out) ⌝ }
     ensures { λ _. ⌜ now (out .exit) ≡ write (now (out .entry)) at (recordBytes (recordOf i)) ⌝ }
@@ -323,7 +323,7 @@ pub fn put_other(out: &mut [u8], at: usize, i: Instruction)
     }
 }
 
-// The same. It is small, so that the call vanishes where a Binary is made.
+// It does the same. It is small, so that the call vanishes where a Binary is made.
 pub fn put_instruction(out: &mut [u8], at: usize, i: Instruction)
     requires { ⌜ at + 64 ≤ length (now out) ⌝ }
     ensures { λ _. ⌜ now (out .exit) ≡ write (now (out .entry)) at (recordBytes (recordOf i)) ⌝ }

@@ -10,25 +10,25 @@ use engine::gilthoren_plain;
 ghost use mathlib.Core.Path.{_≡_};
 ghost use lib.ListN.{length};
 
-// `KRCVEC01`, as a cell.
+// This is `KRCVEC01` as a cell.
 const MAGIC: u64 = 3544406871819637323;
 
-// Bytes in front of the record bytes that are lent, and behind them.
+// So many bytes stand in front of the record bytes that are lent, and behind them.
 const EDGE: usize = 64;
 
-// A number of the list, or of bytes that were read into a slice, and the place behind it in the list; or the list is malformed.
+// It has a number of the list, or of bytes that were read into a slice, and the place behind it in the list; or the list is malformed.
 enum Read {
     Number(u64, usize),
     Bad,
 }
 
-// The place behind what was read; or the list is malformed.
+// It has the place behind what was read; or the list is malformed.
 enum Place {
     At(usize),
     Bad,
 }
 
-// The place behind records or faults, and whether they are as they should be; or the list is malformed.
+// It has the place behind records or faults, and whether they are as they should be; or the list is malformed.
 enum Compared {
     At(usize, bool),
     Bad,
@@ -38,7 +38,7 @@ fn wide(x: u8) -> u64 {
     x as u64
 }
 
-// A number: seven bits a byte, lowest first, the high bit set on all bytes but the last.
+// A number is seven bits a byte, lowest first, with the high bit set on all bytes but the last.
 fn number(list: &[u8], at: usize) -> Read {
     let mut value: u64 = 0;
     let mut shift: u32 = 0;
@@ -58,7 +58,7 @@ fn number(list: &[u8], at: usize) -> Read {
     Read::Bad
 }
 
-// A cell from its zigzag code.
+// It gives a cell from its zigzag code.
 fn cell(z: u64) -> u64 {
     if z % 2 == 0 {
         z / 2
@@ -67,7 +67,7 @@ fn cell(z: u64) -> u64 {
     }
 }
 
-// Puts n cells at the start of `out`.
+// It puts n cells at the start of `out`.
 fn cells_in(list: &[u8], at: usize, n: u64, out: &mut [u8]) -> Place {
     let mut k = at;
     let mut to = 0;
@@ -91,7 +91,7 @@ fn cells_in(list: &[u8], at: usize, n: u64, out: &mut [u8]) -> Place {
     Place::At(k)
 }
 
-// Puts n bytes of the list into `out`, from `from` on.
+// It puts n bytes of the list into `out`, from `from` on.
 fn bytes_in(list: &[u8], at: usize, n: usize, out: &mut [u8], from: usize) -> Place {
     let mut k = at;
     let mut to = from;
@@ -111,7 +111,7 @@ fn bytes_in(list: &[u8], at: usize, n: usize, out: &mut [u8], from: usize) -> Pl
     Place::At(k)
 }
 
-// The bytes of a torn last cell, which stand behind `whole` bytes of cells.
+// It reads the bytes of a torn last cell, which stand behind `whole` bytes of cells.
 fn tail_in(list: &[u8], at: usize, whole: usize, out: &mut [u8]) -> Read {
     if list.len() <= at {
         return Read::Bad;
@@ -129,7 +129,7 @@ fn tail_in(list: &[u8], at: usize, whole: usize, out: &mut [u8]) -> Read {
     }
 }
 
-// A slice, at the start of `out`.
+// It reads a slice to the start of `out`.
 fn slice_in(list: &[u8], at: usize, out: &mut [u8]) -> Read {
     match number(list, at) {
         Read::Number(n, first) => {
@@ -154,7 +154,7 @@ fn print_line(index: u64, n: u64, place: u64) {
     io::write_all(1, b"\n");
 }
 
-// Counts: accepted, the refusals 1 to 9, records, plain functions and differences.
+// The counts are of accepted cases, the refusals 1 to 9, records, plain functions and differences.
 const RECORDS: usize = 10;
 
 const PLAIN: usize = 11;
@@ -167,7 +167,7 @@ fn count(counts: &mut [u64; 16], k: usize, by: u64) {
     }
 }
 
-// Writes and counts a difference: 1 the answer, 2 the records, 3 another lent byte, 4 the plain test.
+// It writes and counts a difference: 1 is the answer, 2 the records, 3 another lent byte, 4 the plain test.
 fn difference(index: u64, what: u64, counts: &mut [u64; 16]) {
     io::write_all(1, b"difference ");
     io::print_decimal(1, index);
@@ -177,7 +177,7 @@ fn difference(index: u64, what: u64, counts: &mut [u64; 16]) {
     count(counts, DIFFERENCES, 1);
 }
 
-// The byte that stands at a place of the record bytes before a call.
+// This byte stands at a place of the record bytes before a call.
 fn filler(k: usize) -> u8 {
     (k % 251) as u8
 }
@@ -190,7 +190,7 @@ fn fill(records: &mut [u8]) {
     }
 }
 
-// Whether the bytes from `from` to before `to` stand as they were filled in.
+// It says whether the bytes from `from` to before `to` stand as they were filled in.
 fn is_filled(records: &[u8], from: usize, to: usize) -> bool {
     let mut k = from;
     while k < to {
@@ -205,7 +205,7 @@ fn is_filled(records: &[u8], from: usize, to: usize) -> bool {
     true
 }
 
-// Whether the next n cells of the list are those at the start of `out`.
+// It says whether the next n cells of the list are those at the start of `out`.
 fn same_cells(list: &[u8], at: usize, n: usize, out: &[u8]) -> Compared {
     let mut k = at;
     let mut j = 0;
@@ -227,7 +227,7 @@ fn same_cells(list: &[u8], at: usize, n: usize, out: &[u8]) -> Compared {
     Compared::At(k, same)
 }
 
-// The n records of an accepted case, and the bytes before and behind them.
+// It compares the n records of an accepted case, and the bytes before and behind them.
 fn records_in(
     list: &[u8],
     at: usize,
@@ -257,8 +257,8 @@ fn records_in(
     Place::At(next)
 }
 
-// The lowering of a case into the record bytes but for EDGE at their start and at their end, against the list's refusal and place, or 0 and the count
-// of records.
+// A case is lowered into the record bytes but for EDGE at their start and at their end, and is held to the list's refusal and place, or 0 and the count of
+// records.
 fn held(
     list: &[u8],
     at: usize,
@@ -288,7 +288,7 @@ fn held(
     }
 }
 
-// The lowering of a case, with as much room as the list says.
+// A case is lowered with as much room as the list says.
 fn lowering(
     list: &[u8],
     at: usize,
@@ -328,7 +328,7 @@ fn lowering(
     )
 }
 
-// Whether k is the first of the next n numbers of the list.
+// It says whether k is the first of the next n numbers of the list.
 fn is_first(list: &[u8], at: usize, n: u64, k: u64) -> Compared {
     let mut here = at;
     let mut left = n;
@@ -346,7 +346,7 @@ fn is_first(list: &[u8], at: usize, n: u64, k: u64) -> Compared {
     Compared::At(here, found)
 }
 
-// The plain test of a case, against the first of the list's faults.
+// The plain test of a case is held to the first of the list's faults.
 fn plainness(
     list: &[u8],
     at: usize,
@@ -376,7 +376,7 @@ fn plainness(
     Place::At(next)
 }
 
-// A case's tables and sheet, through everything.
+// A case's tables and sheet go through both.
 fn answer(
     list: &[u8],
     at: usize,
@@ -392,7 +392,7 @@ fn answer(
     }
 }
 
-// One case.
+// It reads and runs one case.
 fn case(
     list: &[u8],
     at: usize,
@@ -425,7 +425,7 @@ fn case(
     )
 }
 
-// The cases from `at` on, of which there are n, with nothing behind them.
+// It runs the cases from `at` on, of which there are n, with nothing behind them.
 fn cases(
     list: &[u8],
     at: usize,
@@ -451,7 +451,7 @@ fn cases(
     k == list.len()
 }
 
-// The place behind the list's first eight bytes and the count of its cases.
+// It gives the count of the list's cases, behind its first eight bytes, and the place behind it.
 fn header(list: &[u8]) -> Read {
     let Cell::Word(first, _) = Cursor::new(0).cell(list) else {
         return Read::Bad;
@@ -463,7 +463,7 @@ fn header(list: &[u8]) -> Read {
     }
 }
 
-// Room for the list, for a sheet and for records. The `ensures` gives the length, which lending an array as a slice needs.
+// There is room for the list, for a sheet and for records. The `ensures` gives the length, which lending an array as a slice needs.
 fn list_room() -> [u8; 1572864]
     ensures { λ r. ⌜ 1572864 ≡ length r ⌝ }
 {

@@ -1,9 +1,9 @@
-// The input of the listing program: the count of table cells, the tables, the sheet.
+// The input of the listing program is the count of table cells, the tables and the sheet.
 use cells::cell_at;
 ghost use mathlib.Core.Path.{_≡_};
 ghost use Rattle.text.specs.Input.{splitOf};
 
-// `Tables(n)`: the n cells behind the first are the tables, and all bytes behind those the sheet.
+// With `Tables(n)` the n cells behind the first are the tables, and all bytes behind those the sheet.
 pub enum Parts {
     TooLong,
     NoTables,

@@ -1,4 +1,4 @@
-// The text of the listing program: numbers, cells and lines, written into lent bytes.
+// The text of the listing program is numbers, cells and lines, written into lent bytes.
 pub mod input;
 
 use cells::cell_at;
@@ -12,7 +12,7 @@ ghost use Rattle.cells.specs.Cells.{cells};
 ghost use Rattle.text.specs.Text.{digits, signed, okLine, refusedLine, tooLongLine, Put};
 ghost use Rattle.text.specs.Records.{cellsLine, recordsText};
 
-// One byte at a place; the answer is the place behind it.
+// It puts one byte at a place; the answer is the place behind it.
 fn put_byte(out: &mut [u8], at: usize, b: u8) -> usize
     requires { ⌜ at < length (now out) ⌝ }
     ensures { λ r. ⌜ Put (now (out .entry)) at (b ∷ []) r (now (out .exit)) ⌝ }
@@ -21,7 +21,7 @@ fn put_byte(out: &mut [u8], at: usize, b: u8) -> usize
     at + 1
 }
 
-// Bytes from the start of `out` on; the answer is the place behind them.
+// It puts bytes from the start of `out` on; the answer is the place behind them.
 fn put_word(out: &mut [u8], bytes: &[u8]) -> usize
     requires { ⌜ length (now bytes) ≤ length (now out) ⌝ }
     ensures { λ r. ⌜ Put (now (out .entry)) 0 (now (bytes .entry)) r (now (out .exit)) ⌝ }
@@ -33,7 +33,7 @@ fn put_word(out: &mut [u8], bytes: &[u8]) -> usize
     k
 }
 
-// The digit of a number below ten.
+// It gives the digit of a number below ten.
 fn digit(d: u64) -> u8
     requires { ⌜ d < 10 ⌝ }
     ensures { λ r. ⌜ r ≡ 48 + d ⌝ }
@@ -41,7 +41,7 @@ fn digit(d: u64) -> u8
     48 + d as u8
 }
 
-// A number in decimal, in at most `most` digits, from `at` on; the answer is the place behind it.
+// It puts a number in decimal, in at most `most` digits, from `at` on; the answer is the place behind it.
 fn put_digits(out: &mut [u8], at: usize, most: usize, n: u64) -> usize
     requires { ⌜ at + most ≤ length (now out) ⌝ }
     ensures { λ r. ⌜ Put (now (out .entry)) at (digits most n) r (now (out .exit)) ⌝ }
@@ -56,7 +56,7 @@ fn put_digits(out: &mut [u8], at: usize, most: usize, n: u64) -> usize
     put_byte(out, next, digit(n % 10))
 }
 
-// A cell as a signed number, from `at` on.
+// It puts a cell as a signed number, from `at` on.
 fn put_signed(out: &mut [u8], at: usize, v: u64) -> usize
     requires { ⌜ at + 21 ≤ length (now out) ⌝ }
     ensures { λ r. ⌜ Put (now (out .entry)) at (signed v) r (now (out .exit)) ⌝ }
@@ -68,14 +68,14 @@ fn put_signed(out: &mut [u8], at: usize, v: u64) -> usize
     put_digits(out, next, 20, 18446744073709551615 - v + 1)
 }
 
-// What stands behind a number with `left` more in its line.
+// This stands behind a number with `left` more in its line.
 fn separator(left: usize) -> u8
     ensures { λ r. ⌜ r ≡ cond (eqb left 0) 10 32 ⌝ }
 {
     if left == 0 { b'\n' } else { b' ' }
 }
 
-// The line of `n` cells from cell k on, from `at` on.
+// It puts the line of `n` cells from cell k on, from `at` on.
 fn put_cells(records: &[u8], k: usize, n: usize, out: &mut [u8], at: usize) -> usize
     requires { ⌜ k + n ≤ cells (now records) ⌝ }
     requires { ⌜ at + 22 * n ≤ length (now out) ⌝ }
@@ -89,7 +89,7 @@ fn put_cells(records: &[u8], k: usize, n: usize, out: &mut [u8], at: usize) -> u
     put_cells(records, k + 1, n - 1, out, behind)
 }
 
-// The lines of the first n records, from `at` on. Behind them there is room for a line of the longest numbers.
+// It puts the lines of the first n records, from `at` on. Behind them there is room for a line of the longest numbers.
 fn put_records(records: &[u8], n: usize, out: &mut [u8], at: usize) -> usize
     requires { ⌜ n ≤ length (now records) / 64 ⌝ }
     requires { ⌜ at + length (recordsText (now records) n) + 176 ≤ length (now out) ⌝ }
@@ -105,7 +105,7 @@ fn put_records(records: &[u8], n: usize, out: &mut [u8], at: usize) -> usize
     end
 }
 
-// The line that opens an accepted sheet's text, with the count of its records; the answer is the place behind it.
+// It puts the line that opens an accepted sheet's text, with the count of its records; the answer is the place behind it.
 fn put_ok(n: u64, out: &mut [u8]) -> usize
     requires { ⌜ 24 ≤ length (now out) ⌝ }
     ensures { λ r. ⌜ Put (now (out .entry)) 0 (okLine n) r (now (out .exit)) ⌝ }
@@ -115,8 +115,8 @@ fn put_ok(n: u64, out: &mut [u8]) -> usize
     put_byte(out, end, b'\n')
 }
 
-// The text of an accepted sheet at the start of `out`, for the first n records of the record bytes; the answer is its length.
-// There is room for a first line of 24 bytes, which no count passes, for the records' lines, and for a line of the longest numbers.
+// It puts the text of an accepted sheet at the start of `out`, for the first n records of the record bytes; the answer is its length. There is room for a
+// first line of 24 bytes, which no count passes, for the records' lines, and for a line of the longest numbers.
 pub fn ok_text(n: usize, records: &[u8], out: &mut [u8]) -> usize
     requires { ⌜ n ≤ length (now records) / 64 ⌝ }
     requires { ⌜ 24 + length (recordsText (now records) n) + 176 ≤ length (now out) ⌝ }
@@ -126,7 +126,7 @@ pub fn ok_text(n: usize, records: &[u8], out: &mut [u8]) -> usize
     put_records(records, n, out, end)
 }
 
-// The text of a refusal at the start of `out`, with its number and place; the answer is its length.
+// It puts the text of a refusal at the start of `out`, with its number and place; the answer is its length.
 pub fn refused_text(n: u64, place: u64, out: &mut [u8]) -> usize
     requires { ⌜ 50 ≤ length (now out) ⌝ }
     ensures { λ r. ⌜ Put (now (out .entry)) 0 (refusedLine n place) r (now (out .exit)) ⌝ }
@@ -138,7 +138,7 @@ pub fn refused_text(n: u64, place: u64, out: &mut [u8]) -> usize
     put_byte(out, end, b'\n')
 }
 
-// The text of an input that is too long at the start of `out`; the answer is its length.
+// It puts the text of an input that is too long at the start of `out`; the answer is its length.
 pub fn too_long_text(out: &mut [u8]) -> usize
     requires { ⌜ 9 ≤ length (now out) ⌝ }
     ensures { λ r. ⌜ Put (now (out .entry)) 0 tooLongLine r (now (out .exit)) ⌝ }

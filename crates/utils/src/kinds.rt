@@ -1,4 +1,4 @@
-// `operand_kind` of Krc's codegen/instructions.rs: an operand's size, whether it is a float, and whether it is unsigned.
+// This is `operand_kind` of Krc's codegen/instructions.rs: an operand's size, whether it is a float, and whether it is unsigned.
 use crate::BoolResult;
 use crate::float_short;
 use ir::Operand as IrOp;
@@ -10,7 +10,7 @@ ghost use Rattle.codegen.specs.Instructions.{operandKind};
 ghost use Rattle.utils.specs.Answers.{lent};
 ghost use Rattle.utils.specs.Kinds.{kindResultSays, varKind};
 
-// The size in bytes of an operand's value, whether it is a float, and whether it is unsigned.
+// It has the size in bytes of an operand's value, whether it is a float, and whether it is unsigned.
 pub struct Kind {
     pub size: u64,
     pub float: bool,
@@ -22,7 +22,7 @@ pub enum KindResult {
     Refused(u64),
 }
 
-// A constant's size, by its flag.
+// A constant has its size by its flag.
 fn constant_size(short: bool) -> u64
     ensures { λ r. ⌜ r ≡ cond short 4 8 ⌝ }
 {

@@ -1,5 +1,5 @@
-// Krc's codegen/utils.rs, with `convert_operand` of instructions.rs, which it uses. `tables` and `offsets` are what Krc's `Context` holds: the tables'
-// cells, and each variable's offset under RBP.
+// This is Krc's codegen/utils.rs, with `convert_operand` of instructions.rs, which it uses. `tables` and `offsets` are what Krc's `Context` holds: the
+// tables' cells, and each variable's offset under RBP.
 //
 // A maker of records makes its look-ups in the Rust's order. Then, where it is to write, it puts its records one by one into the lent slice, each as an
 // `Instruction`. It answers how many they are, written or not, or the number of a refusal. So the pass that counts and the pass that writes are one.
@@ -39,7 +39,7 @@ ghost use Rattle.utils.specs.Answers.{sizeSays, operandSays, boolSays, l
 ghost use Rattle.utils.specs.Sources.{sourceOf, HasOwnSize, isString, loadOf};
 ghost use Rattle.utils.specs.Makes.{alone, Makes, Ready};
 
-// A truth value, a size, an operand or a number of records; or the number of a refusal.
+// Each has a truth value, a size, an operand or a number of records; or the number of a refusal.
 pub enum BoolResult {
     Is(bool),
     Refused(u64),
@@ -60,7 +60,7 @@ pub enum CountResult {
     Refused(u64),
 }
 
-// Krc's `Size::from`.
+// This is Krc's `Size::from`.
 pub fn size_from(n: u64) -> SizeResult
     ensures { λ r. ⌜ sizeSays r ≡ sizeFrom n ⌝ }
 {
@@ -83,7 +83,7 @@ pub fn var_size(v: VarId) -> SizeResult
     }
 }
 
-// `-ctx.offsets[id]`, as a two's complement pattern.
+// It is `-ctx.offsets[id]`, as a two's complement pattern.
 pub fn displacement(tables: &[u8], offsets: &[u64], id: u64) -> Number
     ensures { λ r. ⌜ numberSays r ≡ displacement (lent (now (tables .entry)) (now (offsets .entry))) id ⌝ }
 {
@@ -95,7 +95,7 @@ pub fn displacement(tables: &[u8], offsets: &[u64], id: u64) -> Number
     }
 }
 
-// The pattern of minus `n`.
+// It gives the pattern of minus `n`.
 pub fn negated(n: u64) -> u64
     ensures { λ r. ⌜ r ≡ minus n ⌝ }
 {
@@ -106,7 +106,7 @@ pub fn negated(n: u64) -> u64
     }
 }
 
-// `ctx.data_names[id]`: whether a string is in the tables, and its number again.
+// It is `ctx.data_names[id]`: a string that is in the tables has its number again.
 fn string_at(tables: &[u8], offsets: &[u64], id: u64) -> Number
     ensures { λ r. ⌜ numberSays r ≡ stringAt (lent (now (tables .entry)) (now (offsets .entry))) id ⌝ }
 {
@@ -118,7 +118,7 @@ fn string_at(tables: &[u8], offsets: &[u64], id: u64) -> Number
     Number::Refused(5)
 }
 
-// `ctx.floats[id].1`: whether a float constant is short.
+// It is `ctx.floats[id].1`: it says whether a float constant is short.
 pub fn float_short(tables: &[u8], offsets: &[u64], id: u64) -> BoolResult
     ensures { λ r. ⌜ boolSays r ≡ floatShort (lent (now (tables .entry)) (now (offsets .entry))) id ⌝ }
 {
@@ -132,7 +132,7 @@ pub fn float_short(tables: &[u8], offsets: &[u64], id: u64) -> BoolResult
     BoolResult::Refused(5)
 }
 
-// `convert_operand` of a variable: its slot.
+// `convert_operand` of a variable is its slot.
 pub fn convert_var(tables: &[u8], offsets: &[u64], v: VarId) -> OperandResult
     ensures { λ r. ⌜ operandSays r ≡ convertVar (lent (now (tables .entry)) (now (offsets .entry))) v ⌝ }
 {
@@ -184,7 +184,7 @@ fn string_source(tables: &[u8], offsets: &[u64], id: u64) -> OperandResult
     }
 }
 
-// What an operand is loaded from: a string's address, or the operand.
+// An operand is loaded from a string's address, or from what it is converted to.
 pub fn source(tables: &[u8], offsets: &[u64], op: IrOp) -> OperandResult
     ensures { λ r. ⌜ operandSays r ≡ sourceOf (lent (now (tables .entry)) (now (offsets .entry))) op ⌝ }
 {
@@ -194,7 +194,7 @@ pub fn source(tables: &[u8], offsets: &[u64], op: IrOp) -> OperandResult
     convert_operand(tables, offsets, op)
 }
 
-// A float constant's size, by its table.
+// A float constant has its size by its table.
 fn float_size(tables: &[u8], offsets: &[u64], id: u64) -> Size
     ensures { λ r. ⌜ HasOwnSize (lent (now (tables .entry)) (now (offsets .entry))) (IrOp.Float id) r ⌝ }
 {
@@ -204,7 +204,7 @@ fn float_size(tables: &[u8], offsets: &[u64], id: u64) -> Size
     }
 }
 
-// The size of an operand where none is given. It is asked for behind the look-up of the source: a float constant that has none has no size.
+// An operand has this size where none is given. It is asked for behind the look-up of the source: a float constant that has none has no size.
 pub fn own_size(tables: &[u8], offsets: &[u64], op: IrOp) -> Size
     ensures { λ r. ⌜ HasOwnSize (lent (now (tables .entry)) (now (offsets .entry))) op r ⌝ }
 {
@@ -214,7 +214,7 @@ pub fn own_size(tables: &[u8], offsets: &[u64], op: IrOp) -> Size
     op.size()
 }
 
-// The same of the variable or the operand at a cell of the sheet.
+// The next five do the same for the variable or the operand at a cell of the sheet.
 pub fn var_size_at(s: &[u8], k: usize) -> SizeResult
     requires { ⌜ k + 3 ≤ cells (now s) ⌝ }
     ensures { λ r. ⌜ sizeSays r ≡ varSize (varAt (now (s .entry)) k) ⌝ }
@@ -304,8 +304,8 @@ pub fn mov(dst: Operand, src: Operand, size: Size) -> Instruction
     }
 }
 
-// The record that brings a source into a register: a string by Lea; an XMM register is loaded by LoadF; one byte by Movzx, or by a four-byte Mov of a
-// constant; the rest by Mov.
+// One record brings a source into a register: a string by Lea; an XMM register is loaded by LoadF; one byte by Movzx, or by a four-byte Mov of a constant;
+// the rest by Mov.
 pub fn put_load(out: &mut [u8], at: usize, reg: Register, src: Operand, size: Size)
     requires { ⌜ at + 64 ≤ length (now out) ⌝ }
     ensures { λ _. ⌜ now (out .exit) ≡ write (now (out .entry)) at (recordBytes (recordOf (loadOf reg src size))) ⌝ }
@@ -385,7 +385,7 @@ pub fn one_record(out: &mut [u8], at: usize, i: Instruction, write: bool) -> Cou
     CountResult::Records(1)
 }
 
-// `load_operand` with no size given: the record that brings an operand, at its own size, into a register.
+// This is `load_operand` with no size given: one record brings an operand, at its own size, into a register.
 pub fn load_operand(
     tables: &[u8],
     offsets: &[u64],

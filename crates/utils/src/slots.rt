@@ -38,7 +38,7 @@ pub fn look_slot(tables: &[u8], offsets: &[u64], v: VarId) -> SlotResult
     }
 }
 
-// .. of the variable at a cell of the sheet.
+// It does the same for the variable at a cell of the sheet.
 pub fn look_slot_at(tables: &[u8], offsets: &[u64], s: &[u8], k: usize) -> SlotResult
     requires { ⌜ k + 3 ≤ cells (now s) ⌝ }
     ensures { λ r. ⌜ slotSays r ≡ lookSlot (lent (now (tables .entry)) (now (offsets .entry))) (varAt (now (s .entry)) k) ⌝ }

@@ -1,4 +1,4 @@
-// Sizes, operands, operations and instructions. A code is a position in Krc's enum.
+// Here are sizes, operands, operations and instructions. A code is a position in Krc's enum.
 use crate::mem_address::MemAddress;
 use crate::register::Register;
 ghost use mathlib.Core.Path.{_≡_};
@@ -6,7 +6,7 @@ ghost use Prim.Native.Nat.{_<_};
 ghost use Rattle.x86.specs.Records.{sizePosition, sizeCode, tagOf, valueOf, conditionCode, binCode, shiftCode, complexCode, unaryCode, stackCode, ctrlCode, prefixCode, stringCode, extendCode, convCode};
 ghost use Rattle.x86.specs.Decode.{conditionOf};
 
-// Krc's `Option<Size>`.
+// This is Krc's `Option<Size>`.
 pub enum Size {
     NoSize,
     U8,
@@ -28,7 +28,7 @@ impl Size {
         }
     }
 
-    // 0, 1, 2, 4 or 8, with no table: what puts a record is small enough to vanish where it is called.
+    // It is 0, 1, 2, 4 or 8, with no table: what puts a record is small enough to vanish where it is called.
     pub fn code(self) -> u64
         ensures { λ r. ⌜ r ≡ sizeCode self ⌝ }
     {
@@ -111,7 +111,7 @@ impl ConditionCode {
         }
     }
 
-    // The way back from `code`; a number that no code has gives NP.
+    // This is the way back from `code`; a number that no code has gives NP.
     pub fn of(number: u64) -> ConditionCode
         ensures { λ r. ⌜ r ≡ conditionOf number ⌝ }
     {
@@ -132,7 +132,7 @@ impl ConditionCode {
     }
 }
 
-// All of Krc's operations, so that a code is a position and needs no table.
+// These are all of Krc's operations, so that a code is a position and needs no table.
 pub enum BinOp {
     Mov,
     Xchg,
@@ -263,7 +263,7 @@ pub enum CtrlOp {
 }
 
 impl CtrlOp {
-    // 16 times the outer code plus the inner one, where there is an inner one.
+    // The code is 16 times the outer code plus the inner one, where there is an inner one.
     pub fn code(self) -> u64
         ensures { λ r. ⌜ r ≡ ctrlCode self ⌝ }
     {
@@ -344,7 +344,7 @@ impl ConvOp {
     }
 }
 
-// Krc's `Prefix` holds a boxed instruction: here the string operation that it repeats.
+// Krc's `Prefix` holds a boxed instruction; here it holds the string operation that it repeats.
 pub enum Instruction {
     Binary {
         op: BinOp,
