@@ -6,7 +6,7 @@ use native.Mathlib.Omega.{arith}
 use Rattle.ir.specs.declared.«Type».{«Type» as IrType}
 use Rattle.ir.specs.declared.VarId.{VarId}
 use Rattle.ir.specs.declared.Operand.{Operand as IrOp}
-use Rattle.ir.specs.Types.{Result, ok, refused, _>>=_, typeSize}
+use Rattle.ir.specs.Types.{ok, refused, _>>=_, typeSize}
 use Rattle.ir.specs.Function.{typeAt, varAt}
 use Rattle.x86.specs.declared.enums.Size.{Size}
 use Rattle.x86.specs.declared.enums.Operand.{Operand}
@@ -18,28 +18,21 @@ use Rattle.utils.specs.declared.slots.Slot.{Slot}
 use Rattle.utils.specs.Slots.{lookSlot}
 use Rattle.utils.specs.Sources.{sourceOf, loadOf}
 use Rattle.utils.specs.Makes.{listed}
-use Rattle.utils.proofs.Sources.{rung, rung-load, sourced, sized, var-given}
+use Rattle.utils.proofs.Sources.{rung, rung-load, last, last-load, sourced, sized, var-given}
 use Rattle.utils.proofs.Looked.{slot-var, slot-size, slot-refused}
 use Rattle.instructions.specs.Looks.{returnRegister, returnOf, movedOf, lookZero, zeroOf, labelOf, jumpOf, lookBranch, branchOf}
 
 pub return-looked : (ctx : Context) (ret : IrType) (op : IrOp) → generateReturn ctx ret op ≡ listed (sourceOf ctx op) (returnOf ctx ret op)
 unfolding generateReturn
-return-looked ctx ret op = rw (sourced ctx (returnRegister ret) op Size.NoSize) (go (sourceOf ctx op))
-  where
-    go : (r : Result Operand) → ((r >>= λ src. ok (loadOf (returnRegister ret) src (ownSize ctx op))) >>= λ load. ok (load ∷ funcEpilogue)) ≡ listed r (returnOf ctx ret op)
-    go (ok src) = refl
-    go (refused n) = refl
+return-looked ctx ret op = rw (sourced ctx (returnRegister ret) op Size.NoSize) (last-load (sourceOf ctx op) (λ src. loadOf (returnRegister ret) src (ownSize ctx op)) (λ load. load ∷ funcEpilogue))
 
 -- once dest's slot is known
 pub copy-looked : (ctx : Context) (dest : VarId) (src : IrOp) {t : Slot} → lookSlot ctx dest ≡ ok t
     → generateCopy ctx dest src ≡ listed (sourceOf ctx src) (λ x. movedOf x (t .size) t)
 unfolding generateCopy
 copy-looked ctx dest src {t} e =
-    rw (slot-var ctx dest e, slot-size ctx dest e, sized ctx RAX src (t .size) (var-given dest .of (t .size) (slot-size ctx dest e))) (go (sourceOf ctx src))
-  where
-    go : (r : Result Operand) → ((r >>= λ x. ok (loadOf RAX x (t .size))) >>= λ load. ok (load ∷ move (t .var) (Operand.Reg RAX) (t .size) ∷ [])) ≡ listed r (λ x. movedOf x (t .size) t)
-    go (ok x) = refl
-    go (refused n) = refl
+    rw (slot-var ctx dest e, slot-size ctx dest e, sized ctx RAX src (t .size) (var-given dest .of (t .size) (slot-size ctx dest e)))
+    (last-load (sourceOf ctx src) (λ x. loadOf RAX x (t .size)) (λ load. load ∷ move (t .var) (Operand.Reg RAX) (t .size) ∷ []))
 
 pub no-slot : (ctx : Context) (dest : VarId) (src : IrOp) {n : ℕ} → lookSlot ctx dest ≡ refused n → generateCopy ctx dest src ≡ refused n
 unfolding generateCopy
@@ -51,19 +44,11 @@ zero-looked ctx dest = rung (typeSize (dest .ty)) _ _ _ (λ n. rung (convertVar 
 
 pub label-looked : (labels id : ℕ) → generateLabel labels id ≡ listed (labelAt labels id) labelOf
 unfolding generateLabel
-label-looked labels id = go (labelAt labels id)
-  where
-    go : (r : Result ℕ) → (r >>= λ label. ok (labelOf label)) ≡ listed r labelOf
-    go (ok label) = refl
-    go (refused n) = refl
+label-looked labels id = last (labelAt labels id) labelOf
 
 pub jump-looked : (labels id : ℕ) → generateJump labels id ≡ listed (labelAt labels id) jumpOf
 unfolding generateJump
-jump-looked labels id = go (labelAt labels id)
-  where
-    go : (r : Result ℕ) → (r >>= λ label. ok (jumpOf label)) ≡ listed r jumpOf
-    go (ok label) = refl
-    go (refused n) = refl
+jump-looked labels id = last (labelAt labels id) jumpOf
 
 pub branch-looked : (ctx : Context) (labels : ℕ) (condition : IrOp) (target : ℕ) → generateJmpIfNot ctx labels condition target ≡ listed (lookBranch ctx labels condition target) branchOf
 unfolding generateJmpIfNot

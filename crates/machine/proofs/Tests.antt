@@ -23,13 +23,6 @@ every-at f [] k d e h = absurd (not-suc-le-zero h)
 every-at f (x ∷ xs) zero d e h = both (f x) (every f xs) e .0
 every-at f (x ∷ xs) (suc k) d e h = every-at f xs k d (both (f x) (every f xs) e .1) (le-of-suc-le-suc h)
 
--- .. and what stands for one that is not there
-pub every-or : {A : Type 0} (f : A → Bool) (xs : List A) (k : ℕ) (d : A) → every f xs ≡ true → f d ≡ true → f (getD xs k d) ≡ true
-unfolding every
-every-or f [] k d e h = h
-every-or f (x ∷ xs) zero d e h = both (f x) (every f xs) e .0
-every-or f (x ∷ xs) (suc k) d e h = every-or f xs k d (both (f x) (every f xs) e .1) h
-
 -- a number from lo to lo + 3
 pub four-cases : (P : ℕ → Type 0) (lo k : ℕ) → lo ≤ k → k ≤ lo + 3 → P (lo + 0) → P (lo + 1) → P (lo + 2) → P (lo + 3) → P k
 four-cases P lo k h g p₀ p₁ p₂ p₃ = subst P e (go (k - lo) (omega arith))

@@ -72,6 +72,16 @@ pub rung-of : {A B : Type 0} {P : A → Type 0} (r : Result A) (f : A → Result
 rung-of (ok a) f g h y e = e a (y .of a refl)
 rung-of (refused n) f g h y e = refl
 
+-- the last rung, and one that is a load
+pub last : {A : Type 0} (r : Result A) (h : A → List Instruction) → (r >>= λ a. ok (h a)) ≡ listed r h
+last (ok a) h = refl
+last (refused n) h = refl
+
+pub last-load : (r : Result Operand) (load : Operand → Instruction) (h : Instruction → List Instruction)
+    → ((r >>= λ src. ok (load src)) >>= λ i. ok (h i)) ≡ listed r (λ src. h (load src))
+last-load (ok src) load h = refl
+last-load (refused n) load h = refl
+
 -- ---- a load's source
 
 -- a size that is given
