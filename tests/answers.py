@@ -1,4 +1,6 @@
 """Equations that the definitions answer as the oracle does, on cases of the fixed list."""
+import collections
+
 import vectors
 from scratch import ROOT, numbers, unfolding
 
@@ -71,7 +73,7 @@ def choose(cases, count, most):
 
     small = [c for c in cases if size(c) <= most]
     chosen = {}
-    for number in range(10):
+    for number in sorted({c.number for c in cases}):
         of = [c for c in small if c.number == number] or sorted((c for c in cases if c.number == number), key=size)[:2]
         for c in of[:12] + of[-12:]:
             chosen[c.index] = c
@@ -90,5 +92,6 @@ def modules(count, most, jobs):
     uses, line = unfolding(["steps"])
     cases = choose(vectors.load(ROOT / "vectors/answers.bin"), count, most)
     texts = {f"answers{k}": HEADER % uses + "\n".join(l for c in cases[k::jobs] for l in equations(c, line)) for k in range(jobs)}
-    counts = ", ".join(str(sum(1 for c in cases if c.number == n)) for n in range(10))
-    return texts, f"{len(cases)} answers are the oracle's (accepted, refused 1 to 9: {counts})"
+    counts = collections.Counter(c.number for c in cases)
+    refused = "".join(f", {counts[number]} refused {number}" for number in sorted(counts) if number > 0)
+    return texts, f"{len(cases)} answers are the oracle's ({counts[0]} accepted{refused})"

@@ -3,24 +3,20 @@
 
 usage: replay.py [--check]
 
-Writes crates/replay/stdout: how often each answer of the lowering stands in the list, how many records, how many plain functions, and no difference. With
---check it compares the file that is there.
+Writes crates/replay/stdout: how many cases are accepted, with how many records; each refusal and how often it stands in the list; how many functions are
+plain, and no difference. With --check it compares the file that is there.
 """
-import pathlib, sys
+import collections, pathlib, sys
 import vectors
 
 ROOT = pathlib.Path(__file__).resolve().parent.parent
 STDOUT = ROOT / "crates/replay/stdout"
 
 
-def words(numbers):
-    return " ".join(str(n) for n in numbers)
-
-
 def text(cases):
-    counts = [sum(1 for c in cases if c.number == n) for n in range(10)]
-    lines = [f"{len(cases)} cases, accepted {counts[0]}, records {sum(len(c.records) for c in cases)}"]
-    lines += ["refused " + words(counts[n:n + 3]) for n in (1, 4, 7)]
+    counts = collections.Counter(c.number for c in cases)
+    lines = [f"{len(cases)} cases, accepted {counts.pop(0, 0)}, records {sum(len(c.records) for c in cases)}"]
+    lines += [f"refused {number} {counts[number]}" for number in sorted(counts)]
     lines.append(f"plain {sum(1 for c in cases if not c.faults)}, differences 0")
     return "".join(line + "\n" for line in lines)
 

@@ -1,5 +1,6 @@
 //! The engine's answers beside Krc's, on guarded slices.
 
+use std::collections::BTreeMap;
 use std::fmt::Write;
 
 use crate::cases;
@@ -15,8 +16,8 @@ const GUARD: usize = 64;
 #[derive(Default)]
 struct Totals {
     cases: usize,
-    /// By answer, 0 to 9.
-    answers: [u64; 10],
+    /// By the answer's number, 0 for accepted.
+    answers: BTreeMap<u64, u64>,
     records: u64,
     plain: u64,
 }
@@ -37,8 +38,8 @@ pub fn test(seed: u64, count: usize) -> Result<String, String> {
 impl Totals {
     fn add(&mut self, case: &Case) {
         self.cases += 1;
-        self.answers[case.result.as_ref().map_or_else(|refusal| refusal.number, |_| 0) as usize] +=
-            1;
+        let number = case.result.as_ref().err().map_or(0, |refusal| refusal.number);
+        *self.answers.entry(number).or_insert(0) += 1;
         self.records += case.result.as_ref().map_or(0, |list| list.len() as u64);
         self.plain += u64::from(case.faults.is_empty());
     }
@@ -46,9 +47,11 @@ impl Totals {
     fn summary(&self) -> String {
         let mut text = format!(
             "{} cases, no difference: {} accepted with {} records",
-            self.cases, self.answers[0], self.records
+            self.cases,
+            self.answers.get(&0).unwrap_or(&0),
+            self.records
         );
-        for (number, count) in self.answers.iter().enumerate().skip(1) {
+        for (number, count) in self.answers.range(1..) {
             write!(text, ", {count} refused {number}").expect("text grows");
         }
         writeln!(text, "; {} plain", self.plain).expect("text grows");

@@ -64,7 +64,7 @@ impl Type {
         self.element_size().map(|size| size * elements)
     }
 
-    /// A variable's offset behind one of offset `previous` (02, M-110): the least multiple of its element's width
+    /// A variable's offset behind one of offset `previous` (M-110): the least multiple of its element's width
     /// not below `previous` plus its size; with no width it keeps `previous`.
     pub fn offset_behind(self, previous: i64) -> i64 {
         match (self.size(), self.element_size()) {

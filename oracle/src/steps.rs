@@ -154,7 +154,7 @@ fn value(operand: &Operand, variables: &[Vec<u8>]) -> Value {
     }
 }
 
-/// One byte widens with zeros, four with the sign if the operand is signed, else with zeros (02, M-105); narrowing keeps the low bytes.
+/// One byte widens with zeros, four with the sign if the operand is signed, else with zeros (M-105); narrowing keeps the low bytes.
 fn widened(value: Value) -> u64 {
     if value.width == 4 && value.signed { value.as_signed() as u64 } else { value.bits }
 }

@@ -2,25 +2,24 @@
 use Prim.Native.Nat.{ℕ, zero, suc, _+_, _≤_, _<_}
 use mathlib.Core.Path.{_≡_, refl}
 use mathlib.Core.Bool.{Bool, true, false, cond}
-use mathlib.Core.Logic.{_⊎_, inl, inr}
 use mathlib.Core.List.{List, [], _∷_, _++_}
 use native.Mathlib.Omega.{arith}
 use borrow.Author.Tests.{ne-eqb, ltb-true, ltb-false}
 use lib.Dec.{ltb}
 use lib.ListN.{length, getD}
-use Rattle.ir.specs.declared.«Type».{«Type» as IrType}
+use Rattle.cells.specs.Refusals.{noLowering}
 use Rattle.ir.specs.declared.VarId.{VarId}
 use Rattle.ir.specs.declared.Operand.{Operand as IrOp}
+use Rattle.ir.specs.declared.«Type».{«Type» as IrType}
 use Rattle.ir.specs.Types.{refused, isUnsigned}
-use Rattle.ir.specs.Function.{BinaryOp, binaryOp}
-use Rattle.x86.specs.declared.register.Register.{Register}
-use Rattle.x86.specs.declared.enums.BinOp.{BinOp}
+use Rattle.ir.specs.Function.{BinaryOp, binaryOp, typeAt, varAt}
 use Rattle.x86.specs.declared.enums.ShiftOp.{ShiftOp}
 use Rattle.x86.specs.declared.enums.ConditionCode.{ConditionCode}
 use Rattle.x86.specs.Registers.{RDX}
 use Rattle.codegen.specs.Context.{Context}
-use Rattle.codegen.specs.Arithmetic.{simpleOperation, floatOperation, division, shift, comparison, floatBinary, integerBinary}
-use Rattle.arithmetic.specs.Codes.{floatCode, simpleCode, comparisonCode, shiftCode, resultRegister}
+use Rattle.codegen.specs.Arithmetic.{division, comparison, floatBinary, integerBinary}
+use Rattle.operations.proofs.Looked.{dest-type}
+use Rattle.arithmetic.specs.Codes.{comparisonCode}
 
 -- ---- some entries of a table, and what is behind all but its last
 
@@ -61,87 +60,50 @@ last : (op : ℕ) → 17 ≤ op → binaryOp op ≡ BinaryOp.Rem
 unfolding binaryOp
 last op h = behind firsts BinaryOp.Rem op h
 
--- ---- the codes' last arms
-
--- the code of Div
-pub last-float : (op : ℕ) → (op ≡ 13 → ⊥) → (op ≡ 14 → ⊥) → (op ≡ 15 → ⊥) → BinOp.DivF ≡ floatCode op
-unfolding floatCode
-last-float op h13 h14 h15 = rw (ne-eqb op 13 h13, ne-eqb op 14 h14, ne-eqb op 15 h15)
-
--- the code of Sub
-pub last-simple : (op : ℕ) → (op ≡ 2 → ⊥) → (op ≡ 3 → ⊥) → (op ≡ 4 → ⊥) → (op ≡ 13 → ⊥) → BinOp.Sub ≡ simpleCode op
-unfolding simpleCode
-last-simple op h2 h3 h4 h13 = rw (ne-eqb op 2 h2, ne-eqb op 3 h3, ne-eqb op 4 h4, ne-eqb op 13 h13)
-
 -- the code of Ge
 pub last-code : (op : ℕ) → (op ≡ 5 → ⊥) → (op ≡ 6 → ⊥) → (op ≡ 7 → ⊥) → (op ≡ 8 → ⊥) → (op ≡ 9 → ⊥) → ConditionCode.GE ≡ comparisonCode op
 unfolding comparisonCode
 last-code op h5 h6 h7 h8 h9 = rw (ne-eqb op 5 h5, ne-eqb op 6 h6, ne-eqb op 7 h7, ne-eqb op 8 h8, ne-eqb op 9 h9)
 
--- the code of Shr
-pub last-shift : (op : ℕ) (ty : IrType) {code : ShiftOp} → code ≡ cond (isUnsigned ty) ShiftOp.Shr ShiftOp.Sar → (op ≡ 11 → ⊥) → code ≡ shiftCode op ty
-unfolding shiftCode
-last-shift op ty e h11 = rw (ne-eqb op 11 h11) e
-
--- the remainder's register
-pub last-register : (op : ℕ) → (op ≡ 16 → ⊥) → RDX ≡ resultRegister op
-unfolding resultRegister
-last-register op h16 = rw (ne-eqb op 16 h16)
-
--- ---- the arms
+-- ---- the arms that are ranges, and the last ones
 
 module _ (ctx : Context) (dest : VarId) (left right : IrOp) where
   -- the logical pair
-  pub logical : (op : ℕ) → op < 2 → integerBinary ctx dest (binaryOp op) left right ≡ refused 7
-  logical op h = some 0 2 (λ k b. integerBinary ctx dest b left right ≡ refused 7) (refl, (refl, tt)) op (omega arith) h
+  pub logical : (op : ℕ) → op < 2 → integerBinary ctx dest (binaryOp op) left right ≡ refused noLowering
+  logical op h = some 0 2 (λ k b. integerBinary ctx dest b left right ≡ refused noLowering) (refl, (refl, tt)) op (omega arith) h
 
-  pub simple : (op : ℕ) {code : BinOp} → code ≡ simpleCode op → 2 ≤ op → (op < 5) ⊎ ((13 ≤ op) × (op < 15))
-      → integerBinary ctx dest (binaryOp op) left right ≡ simpleOperation ctx dest left right code
-  unfolding simpleCode
-  simple op e l (inl h) =
-      rw e
-      (some 2 3 (λ k b. integerBinary ctx dest b left right ≡ simpleOperation ctx dest left right (simpleCode k)) (refl, (refl, (refl, tt))) op l h)
-  simple op e l (inr h) =
-      rw e
-      (some 13 2 (λ k b. integerBinary ctx dest b left right ≡ simpleOperation ctx dest left right (simpleCode k)) (refl, (refl, tt)) op (h .0) (h .1))
-
-  pub comparing : (op : ℕ) {cc : ConditionCode} → cc ≡ comparisonCode op → 5 ≤ op → op < 11 → integerBinary ctx dest (binaryOp op) left right ≡ comparison ctx dest left right cc
+  -- behind the arms of the bit operations
+  pub comparing : (op : ℕ) {cc : ConditionCode} → cc ≡ comparisonCode op → 2 ≤ op → (op ≡ 2 → ⊥) → (op ≡ 3 → ⊥) → (op ≡ 4 → ⊥) → op < 11
+      → integerBinary ctx dest (binaryOp op) left right ≡ comparison ctx dest left right cc
   unfolding comparisonCode
-  comparing op e l h =
+  comparing op e l h2 h3 h4 h =
       rw e
       (some 5 6 (λ k b. integerBinary ctx dest b left right ≡ comparison ctx dest left right (comparisonCode k))
-      (refl, (refl, (refl, (refl, (refl, (refl, tt)))))) op l h)
+      (refl, (refl, (refl, (refl, (refl, (refl, tt)))))) op (omega arith) h)
 
-  pub shifting : (op : ℕ) {code : ShiftOp} → code ≡ shiftCode op (dest .ty) → 11 ≤ op → op < 13 → integerBinary ctx dest (binaryOp op) left right ≡ shift ctx dest left right code
-  unfolding shiftCode
-  shifting op e l h =
-      rw e
-      (some 11 2 (λ k b. integerBinary ctx dest b left right ≡ shift ctx dest left right (shiftCode k (dest .ty))) (refl, (refl, tt)) op l h)
-
-  -- from 16 on, where 15 has its own arm
-  pub dividing : (op : ℕ) {result : Register} → result ≡ resultRegister op → 15 ≤ op → (op ≡ 15 → ⊥) → integerBinary ctx dest (binaryOp op) left right ≡ division ctx dest left right result
-  unfolding resultRegister
-  dividing op {result} e l h15 = go (ltb op 17) refl
-    where
-      go : (b : Bool) → ltb op 17 ≡ b → integerBinary ctx dest (binaryOp op) left right ≡ division ctx dest left right result
-      go true h =
-          rw e
-          (some 16 1 (λ k b. integerBinary ctx dest b left right ≡ division ctx dest left right (resultRegister k)) (refl, tt) op (omega arith) (ltb-true op 17 h))
-      go false h =
-          let m = ltb-false op 17 h in
-          rw (e, last op m, ← last-register op (λ q. omega arith))
-
-  pub floating : (op : ℕ) {code : BinOp} → code ≡ floatCode op → 13 ≤ op → op < 17 → floatBinary ctx dest (binaryOp op) left right ≡ floatOperation ctx dest left right code
-  unfolding floatCode
-  floating op e l h =
-      rw e
-      (some 13 4 (λ k b. floatBinary ctx dest b left right ≡ floatOperation ctx dest left right (floatCode k)) (refl, (refl, (refl, (refl, tt)))) op l h)
+  -- behind all other arms
+  pub remaining : (op : ℕ) → 11 ≤ op → (op ≡ 11 → ⊥) → (op ≡ 12 → ⊥) → (op ≡ 13 → ⊥) → (op ≡ 14 → ⊥) → (op ≡ 15 → ⊥) → (op ≡ 16 → ⊥)
+      → integerBinary ctx dest (binaryOp op) left right ≡ division ctx dest left right RDX
+  remaining op l h11 h12 h13 h14 h15 h16 =
+      let above : 17 ≤ op = omega arith in
+      rw (last op above)
 
   -- only + - * / are done on a float
-  pub float-below : (op : ℕ) → op < 13 → floatBinary ctx dest (binaryOp op) left right ≡ refused 7
-  float-below op h =
-      some 0 13 (λ k b. floatBinary ctx dest b left right ≡ refused 7)
-      (refl, (refl, (refl, (refl, (refl, (refl, (refl, (refl, (refl, (refl, (refl, (refl, (refl, tt))))))))))))) op (omega arith) h
+  pub no-float : (op : ℕ) → (op ≡ 13 → ⊥) → (op ≡ 14 → ⊥) → (op ≡ 15 → ⊥) → (op ≡ 16 → ⊥) → floatBinary ctx dest (binaryOp op) left right ≡ refused noLowering
+  no-float op h13 h14 h15 h16 = go (ltb op 13) refl
+    where
+      go : (b : Bool) → ltb op 13 ≡ b → floatBinary ctx dest (binaryOp op) left right ≡ refused noLowering
+      go true h =
+          some 0 13 (λ k b. floatBinary ctx dest b left right ≡ refused noLowering)
+          (refl, (refl, (refl, (refl, (refl, (refl, (refl, (refl, (refl, (refl, (refl, (refl, (refl, tt))))))))))))) op (omega arith) (ltb-true op 13 h)
+      go false h =
+          let l = ltb-false op 13 h in
+          let above : 17 ≤ op = omega arith in
+          rw (last op above)
 
-  pub float-above : (op : ℕ) → 17 ≤ op → floatBinary ctx dest (binaryOp op) left right ≡ refused 7
-  float-above op h = rw (last op h)
+-- ---- a right shift's code
+
+-- by dest's own type, which stands behind its id
+pub dests-shift : (s : List ℕ) (k : ℕ) {ty : IrType} {code : ShiftOp} → ty ≡ typeAt s (k + 3) → code ≡ cond (isUnsigned ty) ShiftOp.Shr ShiftOp.Sar
+    → code ≡ cond (isUnsigned (varAt s (k + 2) .ty)) ShiftOp.Shr ShiftOp.Sar
+dests-shift s k e f = rw (e, dest-type) at f

@@ -1,4 +1,5 @@
 // This is Krc's codegen/arithmetic.rs: `generate_binary`, which chooses among the eighteen binary operations, and `generate_unary`.
+use cells::refusals::NO_LOWERING;
 use comparisons::comparison;
 use ir::Type;
 use ir::UnaryOp as IrUnary;
@@ -37,20 +38,8 @@ ghost use Rattle.x86.specs.Records.{recordOf, recordBytes, listBytes};
 ghost use Rattle.codegen.specs.Arithmetic.{floatBinary, integerBinary, generateBinary, signBit, generateUnary};
 ghost use Rattle.utils.specs.Answers.{lent};
 ghost use Rattle.utils.specs.Makes.{Makes, Ready};
-ghost use Rattle.arithmetic.specs.Codes.{floatCode, simpleCode, comparisonCode, shiftCode, resultRegister};
+ghost use Rattle.arithmetic.specs.Codes.{comparisonCode};
 ghost use Rattle.arithmetic.specs.Unary.{changedSays, lookUnary, changedOf, signOf, unaryRecord, isNegation, flipsSign};
-
-// It gives the code of a float's operation by its number.
-fn float_code(op: u64) -> BinOp
-    ensures { λ r. ⌜ r ≡ floatCode op ⌝ }
-{
-    match op {
-        13 => BinOp::AddF,
-        14 => BinOp::SubF,
-        15 => BinOp::MulF,
-        _ => BinOp::DivF,
-    }
-}
 
 // Only + - * / are done on a float.
 fn float_binary(
@@ -68,25 +57,15 @@ fn float_binary(
     ensures { λ r. ⌜ Makes write (floatBinary (lent (now (tables .entry)) (now (offsets .entry))) (varAt (now (s .entry)) (k + 2)) (binaryOp op) (operandAt (now (s .entry)) (k + 5)) (operandAt (now (s .entry)) (k + 9))) at (now (out .entry)) (now (out .exit)) r ⌝ }
 {
     match op {
-        13..=16 => float_operation(tables, offsets, s, k, float_code(op), out, at, write),
-        _ => CountResult::Refused(7),
+        13 => float_operation(tables, offsets, s, k, BinOp::AddF, out, at, write),
+        14 => float_operation(tables, offsets, s, k, BinOp::SubF, out, at, write),
+        15 => float_operation(tables, offsets, s, k, BinOp::MulF, out, at, write),
+        16 => float_operation(tables, offsets, s, k, BinOp::DivF, out, at, write),
+        _ => CountResult::Refused(NO_LOWERING),
     }
 }
 
-// It gives the code of an operation on RAX and right.
-fn simple_code(op: u64) -> BinOp
-    ensures { λ r. ⌜ r ≡ simpleCode op ⌝ }
-{
-    match op {
-        2 => BinOp::Or,
-        3 => BinOp::Xor,
-        4 => BinOp::And,
-        13 => BinOp::Add,
-        _ => BinOp::Sub,
-    }
-}
-
-// It gives the code of a comparison.
+// Of 5 to 10, which the caller's arm takes, 10 is the one left; a match on a u64 asks for an arm that takes all others too.
 fn comparison_code(op: u64) -> ConditionCode
     ensures { λ r. ⌜ r ≡ comparisonCode op ⌝ }
 {
@@ -111,26 +90,8 @@ fn right_shift(ty: Type) -> ShiftOp
     }
 }
 
-fn shift_code(op: u64, ty: Type) -> ShiftOp
-    ensures { λ r. ⌜ r ≡ shiftCode op ty ⌝ }
-{
-    match op {
-        11 => ShiftOp::Shl,
-        _ => right_shift(ty),
-    }
-}
-
-// The quotient comes in RAX, the remainder in RDX.
-fn result_register(op: u64) -> Register
-    ensures { λ r. ⌜ r ≡ resultRegister op ⌝ }
-{
-    match op {
-        16 => Register::RAX,
-        _ => Register::RDX,
-    }
-}
-
-// Each maker has one call. The logical pair never reaches the lowering.
+// The logical pair never reaches the lowering. The last number of Krc's `BinaryOp` is 17: the layout lets none above it pass, but a match on a u64 has to
+// take them somewhere.
 fn integer_binary(
     tables: &[u8],
     offsets: &[u64],
@@ -146,23 +107,21 @@ fn integer_binary(
     ensures { λ r. ⌜ Makes write (integerBinary (lent (now (tables .entry)) (now (offsets .entry))) (varAt (now (s .entry)) (k + 2)) (binaryOp op) (operandAt (now (s .entry)) (k + 5)) (operandAt (now (s .entry)) (k + 9))) at (now (out .entry)) (now (out .exit)) r ⌝ }
 {
     match op {
-        0..=1 => CountResult::Refused(7),
-        2..=4 | 13..=14 => {
-            simple_operation(tables, offsets, s, k, simple_code(op), out, at, write)
-        }
+        0..=1 => CountResult::Refused(NO_LOWERING),
+        2 => simple_operation(tables, offsets, s, k, BinOp::Or, out, at, write),
+        3 => simple_operation(tables, offsets, s, k, BinOp::Xor, out, at, write),
+        4 => simple_operation(tables, offsets, s, k, BinOp::And, out, at, write),
         5..=10 => comparison(tables, offsets, s, k, comparison_code(op), out, at, write),
-        11..=12 => shift(
-            tables,
-            offsets,
-            s,
-            k,
-            shift_code(op, type_at(s, k + 3)),
-            out,
-            at,
-            write,
-        ),
+        11 => shift(tables, offsets, s, k, ShiftOp::Shl, out, at, write),
+        12 => {
+            let shift_op = right_shift(type_at(s, k + 3));
+            shift(tables, offsets, s, k, shift_op, out, at, write)
+        }
+        13 => simple_operation(tables, offsets, s, k, BinOp::Add, out, at, write),
+        14 => simple_operation(tables, offsets, s, k, BinOp::Sub, out, at, write),
         15 => multiplication(tables, offsets, s, k, out, at, write),
-        _ => division(tables, offsets, s, k, result_register(op), out, at, write),
+        16 => division(tables, offsets, s, k, Register::RAX, out, at, write),
+        17.. => division(tables, offsets, s, k, Register::RDX, out, at, write),
     }
 }
 

@@ -18,9 +18,10 @@ use Rattle.ir.specs.Function.{Line, typeAt, instrAt, copyAt, unaryAt, binaryAt,
 use Rattle.ir.proofs.Sheet.{lines-more}
 use Rattle.layout.specs.declared.Checked.{Checked}
 use Rattle.layout.specs.declared.Limited.{Limited}
-use Rattle.layout.specs.Layout.{Laid, cursor, instrCheck, instrsCheck}
+use Rattle.layout.specs.Limits.{mostArguments}
+use Rattle.layout.specs.Layout.{Laid, cursor, instrCheck, instrsCheck, headCheck}
 use Rattle.layout.proofs.Passed as passed
-use Rattle.layout.proofs.Laws.{instr-right, instrs-more}
+use Rattle.layout.proofs.Laws.{instr-right, instrs-more, head-few, head-starts}
 use Rattle.layout.proofs.Walk.{walk-from}
 use Rattle.x86.specs.declared.enums.Instruction.{Instruction}
 use Rattle.codegen.specs.Context.{Context}
@@ -35,9 +36,7 @@ use Rattle.utils.specs.Makes.{after, Makes, Fits, Ready, then}
 use Rattle.utils.proofs.Made.{Going, begins, next-ready, next, stops, finishes}
 use Rattle.body.specs.declared.Passed.{Passed}
 use Rattle.body.specs.declared.Surveyed.{Surveyed}
-use Rattle.body.specs.Head.{headCheck}
 use Rattle.body.specs.Body.{bodyOf, withoutPlace, passedOf, surveyOf}
-use Rattle.body.proofs.Heads.{head-few, head-starts}
 
 -- ---- what a survey says of instructions behind others
 
@@ -132,11 +131,11 @@ module _ (s : List ℕ) (c : Cursor) {d : Cursor} (e : instrCheck s c ≡ Checke
   right-behind = let b = instr-right s c e in omega (arith, b .ends, b .within)
 
   -- A call has few arguments.
-  pub right-few : argumentsAt s (c .at) ≤ 64
+  pub right-few : argumentsAt s (c .at) ≤ mostArguments
   unfolding argumentsAt
   right-few = go (eqb (cellAt s (c .at)) 5) (λ t. instr-right s c e .few (eqb-true _ _ t))
     where
-      go : (t : Bool) → (t ≡ true → cellAt s (c .at + 6) ≤ 64) → cond t (cellAt s (c .at + 6)) 0 ≤ 64
+      go : (t : Bool) → (t ≡ true → cellAt s (c .at + 6) ≤ mostArguments) → cond t (cellAt s (c .at + 6)) 0 ≤ mostArguments
       go true f = f refl
       go false f = omega arith
 
@@ -167,7 +166,7 @@ module _ (s : List ℕ) where
 -- body, and `all` is the layout of its instructions.
 pub record Walking (ctx : Context) (labels : ℕ) (ret : IrType) (s : List ℕ) (whole : Outcome (List Instruction)) (all : Checked) (writes : Bool) (place : ℕ) (old : List ℕ)
     (left : ℕ) (here : Cursor) (i made : ℕ) (last : Bool) (new : List ℕ) : Type 0 where
-  pub few : made + mostRecords 64 * left ≤ mostInBody
+  pub few : made + mostRecords mostArguments * left ≤ mostInBody
   pub number : i + left ≤ 4097
   pub layout : instrsCheck s left here ≡ all
   pub says : passedOf whole ≡ passedBehind made last (passedOf (generateBody ctx labels ret i (linesAt s left (here .at))))
@@ -229,7 +228,7 @@ module _ {ctx : Context} {labels : ℕ} {ret : IrType} {s : List ℕ} {whole : O
           abbrev answer : (is : List Instruction) × (line ≡ ok is) × (n ≡ length is)
           answer = counted-ok line (m .says)
 
-          pub walked-few : n ≤ mostRecords 64
+          pub walked-few : n ≤ mostRecords mostArguments
           walked-few = omega (arith, part (answer .0) (answer .1) (answer .2) .few, answer .2, operands-length s (argumentsAt s (here .at)) (here .at + 13), right-few s here e)
 
           pub walked-more : Walking ctx labels ret s whole all writes place old (left - 1) d (i + 1) (made + n) (cond (ltb 0 n) (eqb (cellAt s (here .at)) 9) last) newer

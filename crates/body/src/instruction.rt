@@ -18,6 +18,7 @@ ghost use Prim.Native.Nat.{_≤_};
 ghost use lib.ListN.{length};
 ghost use Rattle.cells.specs.Cells.{cells};
 ghost use Rattle.ir.specs.Function.{argumentsAt, behind};
+ghost use Rattle.layout.specs.Limits.{mostArguments};
 ghost use Rattle.utils.specs.Makes.{Makes, Ready};
 ghost use Rattle.body.specs.Body.{lineMade};
 
@@ -34,7 +35,7 @@ pub fn generate_instruction(
     write: bool,
 ) -> CountResult
     requires { ⌜ behind (now sheet) k ≤ cells (now sheet) ⌝ }
-    requires { ⌜ argumentsAt (now sheet) k ≤ 64 ⌝ }
+    requires { ⌜ argumentsAt (now sheet) k ≤ mostArguments ⌝ }
     requires { ⌜ at ≤ 4294967296 ⌝ }
     requires { ⌜ Ready write (lineMade (now tables) (now offsets) (now sheet) k labels ret) at (length (now out)) ⌝ }
     ensures { λ r. ⌜ Makes write (lineMade (now (tables .entry)) (now (offsets .entry)) (now (sheet .entry)) k labels ret) at (now (out .entry)) (now (out .exit)) r ⌝ }
@@ -62,6 +63,7 @@ pub fn generate_instruction(
         7 => generate_jump(labels, op, out, at, write),
         8 => generate_jmp_if_not(tables, offsets, sheet, k, labels, out, at, write),
         9 => generate_return(tables, offsets, sheet, k, ret, out, at, write),
+        // The last kind of Krc's `Instr` is 10, a Comment: the layout lets none above it pass, but a match on a u64 has to take them somewhere.
         _ => CountResult::Records(0),
     }
 }

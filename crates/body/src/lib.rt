@@ -9,8 +9,8 @@ use ir::read::behind;
 use ir::read::body_from;
 use ir::read::type_at;
 use layout::Checked;
-use layout::lists::instrs_check;
-use layout::lists::next_instr;
+use layout::instrs::instr_check;
+use layout::instrs::instrs_check;
 use utils::CountResult;
 ghost use mathlib.Core.Path.{_≡_};
 ghost use mathlib.Core.Bool.{true, cond};
@@ -20,10 +20,10 @@ ghost use lib.ListN.{length};
 ghost use Rattle.cells.specs.Cells.{cells, cellAt};
 ghost use Rattle.ir.specs.Function.{behind};
 ghost use Rattle.layout.specs.declared.Limited.{Limited};
-ghost use Rattle.layout.specs.Layout.{Laid, cursor, instrCheck, instrsCheck};
+ghost use Rattle.layout.specs.Limits.{mostParameters};
+ghost use Rattle.layout.specs.Layout.{Laid, cursor, instrCheck, instrsCheck, headCheck};
 ghost use Rattle.codegen.specs.Bounds.{mostInBody, mostInPrologue};
 ghost use Rattle.utils.specs.Makes.{after, Makes, Ready};
-ghost use Rattle.body.specs.Head.{headCheck};
 ghost use Rattle.body.specs.Body.{bodyOf, withoutPlace, passedOf, surveyOf, madeIn};
 
 // The instructions make so many records, and the last of them is Ret or not; or one of them, numbered from 1, is refused.
@@ -35,7 +35,7 @@ pub enum Passed {
 // The layout of the instructions is right, and the cursor is behind them; or a cell is the first wrong one.
 pub enum Surveyed {
     Laid(Passed, Cursor),
-    Wrong(u64, usize),
+    Wrong(u8, usize),
 }
 
 // It says whether the last record is Ret, behind the `n` records of the instruction at cell `k`. Those of a Return end in Ret, and without any the last
@@ -64,11 +64,9 @@ fn next_line(sheet: &[u8], here: Cursor, write: bool) -> Checked
     ensures { λ r. ⌜ r ≡ instrCheck (now (sheet .entry)) here ⌝ }
 {
     if write {
-        return Checked::Behind(Cursor {
-            at: behind(sheet, here.at),
-        });
+        return Checked::Behind(Cursor::new(behind(sheet, here.at)));
     }
-    next_instr(sheet, here)
+    instr_check(sheet, here)
 }
 
 // It goes over the instructions from a cursor on. The records are counted, or they are written behind the `first` ones.
@@ -83,7 +81,7 @@ fn walk_body(
 ) -> Surveyed
     requires { ⌜ headCheck (now sheet) ≡ Limited.Word (cellAt (now sheet) 5) from ⌝ }
     requires { ⌜ (write ≡ true → Laid (now sheet)) ⌝ }
-    requires { ⌜ first ≤ mostInPrologue 256 ⌝ }
+    requires { ⌜ first ≤ mostInPrologue mostParameters ⌝ }
     requires { ⌜ Ready write (withoutPlace (bodyOf (now tables) (now offsets) (now sheet))) (64 * first) (length (now out)) ⌝ }
     ensures { λ r. ⌜ r ≡ surveyOf (instrsCheck (now (sheet .entry)) (cellAt (now (sheet .entry)) 5) from) (passedOf (bodyOf (now (tables .entry)) (now (offsets .entry)) (now (sheet .entry)))) ⌝ }
     ensures { λ r. ⌜ madeIn r ≤ mostInBody ⌝ }
@@ -132,13 +130,11 @@ pub fn survey_body(tables: &[u8], offsets: &[u64], sheet: &[u8], from: Cursor) -
 // It writes the records of every instruction behind the `first` ones, and gives their number. No instruction is refused, and there is room for the records.
 pub fn write_body(tables: &[u8], offsets: &[u64], sheet: &[u8], first: u64, out: &mut [u8]) -> u64
     requires { ⌜ Laid (now sheet) ⌝ }
-    requires { ⌜ first ≤ mostInPrologue 256 ⌝ }
+    requires { ⌜ first ≤ mostInPrologue mostParameters ⌝ }
     requires { ⌜ Ready true (withoutPlace (bodyOf (now tables) (now offsets) (now sheet))) (64 * first) (length (now out)) ⌝ }
     ensures { λ r. ⌜ Makes true (withoutPlace (bodyOf (now (tables .entry)) (now (offsets .entry)) (now (sheet .entry)))) (64 * first) (now (out .entry)) (now (out .exit)) (CountResult.Records r) ⌝ }
 {
-    let from = Cursor {
-        at: body_from(sheet),
-    };
+    let from = Cursor::new(body_from(sheet));
     match walk_body(tables, offsets, sheet, from, first, out, true) {
         Surveyed::Laid(body, _) => match body {
             Passed::Made(n, _) => n,

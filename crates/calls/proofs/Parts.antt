@@ -1,6 +1,6 @@
 -- What the code's tests and patterns say: an argument's kind, whether it is in excess, and whether a result is kept.
 use mathlib.Core.Path.{_≡_, refl}
-use mathlib.Core.Bool.{false}
+use mathlib.Core.Bool.{Bool, true, false, cond}
 use mathlib.Core.List.{[], _∷_}
 use denote.Enum.Declared.{tagOf}
 use types.Run.{OneOf, miss}
@@ -10,9 +10,14 @@ use Rattle.ir.specs.declared.Operand.{Operand as IrOp}
 use Rattle.ir.specs.declared.VarId.{VarId}
 use Rattle.ir.specs.declared.Dest.{Dest}
 use Rattle.ir.specs.Types.{ok, isFloat}
+use Rattle.x86.specs.declared.enums.Operand.{Operand}
+use Rattle.x86.specs.declared.enums.Instruction.{Instruction}
+use Rattle.x86.specs.Registers.{xmm, RAX}
 use Rattle.codegen.specs.Context.{Context}
+use Rattle.codegen.specs.Frame.{storeOf}
 use Rattle.codegen.specs.Instructions.{floating, storeResult}
 use Rattle.utils.specs.Makes.{listed}
+use Rattle.utils.specs.declared.slots.Slot.{Slot}
 use Rattle.utils.specs.Slots.{lookSlot}
 use Rattle.utils.proofs.Looked.{slot-looked}
 use Rattle.calls.specs.Calls.{isFloatConstant, resultOf}
@@ -43,6 +48,10 @@ not-kept ctx Dest.Nothing h = refl
 not-kept ctx (Dest.Var v) h = absurd (miss (0 ∷ []) 1 tt h)
 
 -- ---- a result that is kept
+
+pub result-by : (float : Bool) (t : Slot) → Instruction.Binary (storeOf float) (t .var) (Operand.Reg (cond float (xmm 0) RAX)) (t .size) ≡ resultOf float t
+result-by true t = refl
+result-by false t = refl
 
 pub kept-looked : (ctx : Context) (v : VarId) → storeResult ctx (Dest.Var v) ≡ listed (lookSlot ctx v) (λ t. resultOf (isFloat (v .ty)) t ∷ [])
 unfolding storeResult

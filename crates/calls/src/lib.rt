@@ -4,6 +4,7 @@ use ir::Dest;
 use ir::Operand as IrOp;
 use ir::VarId;
 use ir::read::operand_at;
+use ir::types::rounded_to_16;
 use records::put_instruction;
 use utils::CountResult;
 use utils::load_operand;
@@ -12,6 +13,7 @@ use utils::one_record;
 use utils::slots::Slot;
 use utils::slots::SlotResult;
 use utils::slots::look_slot;
+use utils::store_op;
 use x86::enums::BinOp;
 use x86::enums::CtrlOp;
 use x86::enums::Instruction;
@@ -21,6 +23,7 @@ use x86::mem_address::Base;
 use x86::mem_address::MemAddress;
 use x86::register::Register;
 ghost use mathlib.Core.Path.{_≡_};
+ghost use mathlib.Core.Bool.{cond};
 ghost use Prim.Native.Nat.{_+_, _*_, _≤_};
 ghost use lib.ListN.{length};
 ghost use Rattle.cells.specs.Cells.{cells, write};
@@ -28,7 +31,8 @@ ghost use Rattle.ir.specs.declared.Dest.{Dest};
 ghost use Rattle.ir.specs.Types.{ok};
 ghost use Rattle.ir.specs.Function.{operandsAt};
 ghost use Rattle.x86.specs.Records.{recordOf, recordBytes};
-ghost use Rattle.codegen.specs.Instructions.{floating, excess, loadArguments, pushArguments, callArea, moveStack, storeResult, generateCall};
+ghost use Rattle.x86.specs.Registers.{xmm, RAX};
+ghost use Rattle.codegen.specs.Instructions.{floating, excess, loadArguments, pushArguments, moveStack, storeResult, generateCall};
 ghost use Rattle.utils.specs.Answers.{lent};
 ghost use Rattle.utils.specs.Makes.{Makes, Ready};
 ghost use Rattle.codegen.specs.Excess.{ifBeyond};
@@ -158,15 +162,7 @@ fn push_arguments(
     CountResult::Records(2 * taken.stack)
 }
 
-// The area of `k` arguments in excess is the least multiple of 16 not below 8k.
-fn call_area(k: u64) -> u64
-    requires { ⌜ k ≤ 64 ⌝ }
-    ensures { λ r. ⌜ r ≡ callArea k ⌝ }
-{
-    (8 * k + 15) / 16 * 16
-}
-
-// RSP is lowered or raised by that area, if there are any of them.
+// RSP is lowered or raised by the area of `k` arguments in excess, if there are any of them.
 fn move_stack(op: BinOp, k: u64, out: &mut [u8], at: usize, write: bool) -> CountResult
     requires { ⌜ k ≤ 64 ⌝ }
     requires { ⌜ Ready write (ok (moveStack op k)) at (length (now out)) ⌝ }
@@ -178,7 +174,7 @@ fn move_stack(op: BinOp, k: u64, out: &mut [u8], at: usize, write: bool) -> Coun
     let moved = Instruction::Binary {
         op,
         dst: Operand::Reg(Register::RSP),
-        src: Operand::Imm(call_area(k)),
+        src: Operand::Imm(rounded_to_16(8 * k)),
         size: Size::NoSize,
     };
     one_record(out, at, moved, write)
@@ -290,27 +286,28 @@ fn call_raised(symbol: u64, k: u64, out: &mut [u8], at: usize, write: bool) -> C
     }
 }
 
-// The result comes from XMM0 or RAX.
+fn result_register(float: bool) -> Register
+    ensures { λ r. ⌜ r ≡ cond float (xmm 0) RAX ⌝ }
+{
+    if float { Register::XMM0 } else { Register::RAX }
+}
+
 fn put_result(out: &mut [u8], at: usize, t: Slot, float: bool)
     requires { ⌜ at + 64 ≤ length (now out) ⌝ }
     ensures { λ _. ⌜ now (out .exit) ≡ write (now (out .entry)) at (recordBytes (recordOf (resultOf float t))) ⌝ }
 {
     let var = t.var;
     let size = t.size;
-    if float {
-        put_instruction(
-            out,
-            at,
-            Instruction::Binary {
-                op: BinOp::StoreF,
-                dst: var,
-                src: Operand::Reg(Register::XMM0),
-                size,
-            },
-        );
-        return;
-    }
-    put_instruction(out, at, mov(var, Operand::Reg(Register::RAX), size));
+    put_instruction(
+        out,
+        at,
+        Instruction::Binary {
+            op: store_op(float),
+            dst: var,
+            src: Operand::Reg(result_register(float)),
+            size,
+        },
+    );
 }
 
 // A result that is kept is stored.

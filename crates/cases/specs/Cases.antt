@@ -1,4 +1,4 @@
--- Believed: it is 01's table of twelve cases as 02 has it, with the cases of 02's signed division: what the definitions give beside what the papers say.
+-- Believed: the scope's table of twelve cases, with those of signed division (M-106): what the definitions give beside what docs/FORMAT.md says.
 -- Sheets are given by their cells, values by a run. No other claim rests on it.
 use Prim.Native.Nat.{ℕ, _+_, _*_, _^_}
 use mathlib.Core.Path.{_≡_}
@@ -79,7 +79,7 @@ noDest = 0 ∷ 0 ∷ 0 ∷ []
 
 -- ---- what is asked of an answer
 
--- 01's tables `0`: no strings and no floats
+-- the tables `0`: no strings and no floats
 abbrev pub empty : List ℕ
 empty = fromCells (0 ∷ [])
 
@@ -164,7 +164,7 @@ faulted s n m =
 
 -- ---- the sheets
 
--- 01's own cells
+-- the cells of the listing example (docs/FORMAT.md, "The listing program")
 abbrev pub listing : List ℕ
 listing =
     fromCells (1 ∷ 1 ∷ 0 ∷ 3 ∷ minus 1 ∷ 1 ∷ 3 ∷ minus 1 ∷ 0 ∷ 3 ∷ minus 1 ∷ 9 ∷ 0 ∷ 0 ∷ 0 ∷ 0 ∷ 0 ∷ 0 ∷ 3 ∷ minus 1 ∷ 0 ∷ 0 ∷ 0 ∷ 0 ∷ [])
@@ -245,7 +245,7 @@ answers =
 -- values, and the epilogue
 abbrev pub runs : List Case
 runs =
-    -- short 4294967295 cast to long is -1, and 4294967295 when the constant is unsigned (02, M-105)
+    -- short 4294967295 cast to long is -1, and 4294967295 when the constant is unsigned (M-105)
     case (returned (castToLong (int 4294967295 1)) 2 10 ++ returned (castToLong (unsignedInt 4294967295 1)) 2 9)
     (8 ∷ minus 1 ∷ minus 1 ∷ 8 ∷ 4294967295 ∷ 4294967295 ∷ [])
     -- short 1 shifted left by 32 is 1, by 33 is 2
@@ -253,7 +253,7 @@ runs =
     -- Return then Comment adds no second epilogue
     ∷ case (summary (answer (sheet 0 0 2 (instr 9 0 noDest (int 0 0) nothing ++ instr 10 0 noDest nothing nothing)))) (0 ∷ 7 ∷ []) ∷ []
 
--- signed division (02, M-106)
+-- signed division (M-106)
 abbrev pub quotients : List Case
 quotients =
     -- -7 by 2 is -3 and leaves -1
@@ -266,7 +266,7 @@ quotients =
 abbrev pub cases : List Case
 cases = lists ++ (answers ++ (runs ++ quotients))
 
--- what the definitions give is what the papers say, in each of some cases
+-- what the definitions give is what stands beside it, in each of some cases
 abbrev pub HoldIn : List Case → Type 0
 HoldIn cs = map (λ (c : Case). c .given) cs ≡ map (λ (c : Case). c .expected) cs
 

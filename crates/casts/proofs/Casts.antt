@@ -13,11 +13,13 @@ use Rattle.ir.specs.Types.{Result, ok, refused, _>>=_, typeSize, isFloat}
 use Rattle.x86.specs.declared.register.Register.{Register}
 use Rattle.x86.specs.declared.enums.Size.{Size}
 use Rattle.x86.specs.declared.enums.Operand.{Operand}
+use Rattle.x86.specs.declared.enums.BinOp.{BinOp}
 use Rattle.x86.specs.declared.enums.ConvOp.{ConvOp}
 use Rattle.x86.specs.declared.enums.Instruction.{Instruction}
 use Rattle.x86.specs.Registers.{xmm, RAX}
 use Rattle.codegen.specs.Context.{Context}
 use Rattle.codegen.specs.Utils.{sizeFrom, varSize, convertVar, convertOperand, loadOperand, loadValue}
+use Rattle.codegen.specs.Frame.{storeOf}
 use Rattle.codegen.specs.Instructions as spec
 use Rattle.codegen.specs.Instructions.{source, operandKind, generateCopy, castOperand, widened, converted, extended, castBetween, isUnsignedShort, zeroExtended, isCopy, generateCast}
 use Rattle.utils.specs.declared.CountResult.{CountResult}
@@ -28,7 +30,7 @@ use Rattle.utils.proofs.Sources.{rung, sized}
 use Rattle.casts.specs.declared.Source.{Source}
 use Rattle.utils.specs.declared.slots.Slot.{Slot}
 use Rattle.instructions.specs.Looks.{movedOf}
-use Rattle.casts.specs.Casts.{sourceFrom, constantSize, movzx, movsxd, sourceRecords, sourceSays, castSource, storeOp, convertedOf, isExtended, extendedOf, integerToFloat, floatToInteger}
+use Rattle.casts.specs.Casts.{sourceFrom, constantSize, movzx, movsxd, sourceRecords, sourceSays, castSource, convertedOf, isExtended, extendedOf, integerToFloat, floatToInteger}
 
 -- ---- the source
 
@@ -90,9 +92,14 @@ module _ (s : Source) where
 
 -- ---- codegen's lists by their look-ups
 
+store-of : (float : Bool) → storeOf float ≡ cond float BinOp.StoreF BinOp.Mov
+store-of true = refl
+store-of false = refl
+
 pub converted-looked : (ctx : Context) (dest : VarId) (s : spec.Source) (op : ConvOp) (reg : Register) (by : Size)
-    → converted ctx dest s op reg by ≡ listed (lookSlot ctx dest) (convertedOf s op reg by (storeOp (isFloat (dest .ty))))
-converted-looked ctx dest s op reg by = rung (convertVar ctx dest) _ _ _ (λ v. rung (varSize dest) _ _ _ (λ z. refl))
+    → converted ctx dest s op reg by ≡ listed (lookSlot ctx dest) (convertedOf s op reg by (storeOf (isFloat (dest .ty))))
+converted-looked ctx dest s op reg by =
+    rw (store-of (isFloat (dest .ty))) (rung (convertVar ctx dest) _ _ _ (λ v. rung (varSize dest) _ _ _ (λ z. refl)))
 
 cond-not : {A : Type 0} (b : Bool) (x y : A) → cond b x y ≡ cond (not b) y x
 cond-not true x y = refl

@@ -70,11 +70,6 @@ sourceResultSays (SourceResult.Refused n) = refused n
 abbrev pub castSource : Context → IrOp → spec.Kind → Result spec.Source
 castSource ctx op k = castOperand ctx op (k .size) >>= λ s. ok (widened (k .float) s)
 
--- ---- dest
-
-abbrev pub storeOp : Bool → BinOp
-storeOp float = cond float BinOp.StoreF BinOp.Mov
-
 -- ---- records
 
 abbrev pub convertedOf : spec.Source → ConvOp → Register → Size → BinOp → Slot → List Instruction

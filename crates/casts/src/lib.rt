@@ -23,6 +23,7 @@ use utils::slots::Slot;
 use utils::slots::SlotResult;
 use utils::slots::look_slot_at;
 use utils::source_at;
+use utils::store_op;
 use utils::var_size_at;
 use x86::enums::BinOp;
 use x86::enums::ConvOp;
@@ -43,7 +44,7 @@ ghost use Rattle.codegen.specs.Instructions.{operandKind, converted, extended, 
 ghost use Rattle.utils.specs.Answers.{lent};
 ghost use Rattle.utils.specs.Kinds.{kindSays};
 ghost use Rattle.utils.specs.Makes.{Makes, Ready};
-ghost use Rattle.casts.specs.Casts.{isConstant, isByte, constantSize, movzx, sourceRecords, sourceOperand, sourceSize, sourceSays, sourceResultSays, castSource, storeOp, convertedOf, isExtended, extendedOf, floatToFloat, integerToFloat, floatToInteger};
+ghost use Rattle.casts.specs.Casts.{isConstant, isByte, constantSize, movzx, sourceRecords, sourceOperand, sourceSize, sourceSays, sourceResultSays, castSource, convertedOf, isExtended, extendedOf, floatToFloat, integerToFloat, floatToInteger};
 
 // What is cast has an operand. It may be a constant, which goes through RAX, or one byte that is no float, which is widened there. Its size in bytes is
 // that before.
@@ -167,12 +168,6 @@ fn put_source(out: &mut [u8], at: usize, s: Source)
     if s.byte {
         put_extend(out, at, movzx(operand));
     }
-}
-
-fn store_op(float: bool) -> BinOp
-    ensures { λ r. ⌜ r ≡ storeOp float ⌝ }
-{
-    if float { BinOp::StoreF } else { BinOp::Mov }
 }
 
 fn put_converted(

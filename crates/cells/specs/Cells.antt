@@ -1,4 +1,4 @@
--- Believed: cells of a byte list: eight bytes each, little-endian, two's complement, counted from 0 (01, "From Krc's shapes to ours").
+-- Believed: cells of a byte list: eight bytes each, little-endian, two's complement, counted from 0 (docs/FORMAT.md, "Cells").
 -- A byte is taken modulo 256 where it is read, so that every cell is below 2 ^ 64 whatever the list holds.
 use Prim.Native.Nat.{ℕ, _+_, _*_, _-_, _/_, _%_, _^_}
 use mathlib.Core.List.{List, [], _∷_, _++_}

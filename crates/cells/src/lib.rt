@@ -1,4 +1,6 @@
 // A cell is eight bytes of a lent slice, little-endian. It is held as a u64; a negative number is its two's complement pattern.
+pub mod refusals;
+
 ghost use mathlib.Core.Path.{_≡_};
 ghost use Prim.Native.Nat.{_+_, _*_, _≤_, _<_};
 ghost use lib.ListN.{length};

@@ -6,7 +6,7 @@ use Rattle.x86.specs.declared.enums.ConditionCode.{ConditionCode}
 use Rattle.x86.specs.Records.{conditionCode}
 use Rattle.codegen.specs.Arithmetic.{unsignedCode, floatCode}
 
--- 01, "Krc's files as they stay", 6: the ten codes for an unsigned, non-float left
+-- the ten codes that Krc has for an unsigned, non-float left (arithmetic.rs)
 pub table-of-ten : (cc : ConditionCode) → getD (ConditionCode.E ∷ ConditionCode.NE ∷ ConditionCode.A ∷ ConditionCode.AE ∷ ConditionCode.B ∷ ConditionCode.BE ∷ ConditionCode.A ∷ ConditionCode.AE ∷ ConditionCode.B ∷ ConditionCode.BE ∷ []) (conditionCode cc) cc ≡ unsignedCode cc
 unfolding unsignedCode
 table-of-ten ConditionCode.E = refl

@@ -5,6 +5,7 @@ use mathlib.Core.Bool.{Bool, true, false, cond, not, _&&_, false≢true}
 use mathlib.Core.List.{List, [], _∷_, _++_}
 use lib.Dec.{ltb, eqb}
 use lib.ListN.{length, getD}
+use Rattle.cells.specs.Refusals.{noEntry, noLowering}
 use Rattle.ir.specs.declared.«Type».{«Type» as IrType}
 use Rattle.ir.specs.declared.VarId.{VarId}
 use Rattle.ir.specs.declared.Operand.{Operand as IrOp}
@@ -133,7 +134,7 @@ pub data Lowers (ctx : Context) (labels : ℕ) (ret : IrType) : Instr → List I
 -- ---- look-ups
 
 -- an entry of a table that has so many
-entry : {A : Type 0} (k n : ℕ) (a : A) → Slips (cond (ltb k n) (ok a) (refused 5))
+entry : {A : Type 0} (k n : ℕ) (a : A) → Slips (cond (ltb k n) (ok a) (refused noEntry))
 entry k n a = either (ltb k n) (λ e. fine) (λ e. slip 5 refl refl)
 
 type-size : (ty : IrType) → Slips (typeSize ty)
@@ -272,7 +273,7 @@ module _ (ctx : Context) where
           look (load a l z) (λ i g. look (load b r z) (λ j m. look (var d) (λ v n. look (var-size d) (λ q t. gives (compares k h e f s g m n t)))))
 
   -- what is not done on a float
-  words-only : {P : List Instruction → Type 0} {r : Result (List Instruction)} (float : Bool) → Closed P r → Closed P (cond float (refused 7) r)
+  words-only : {P : List Instruction → Type 0} {r : Result (List Instruction)} (float : Bool) → Closed P r → Closed P (cond float (refused noLowering) r)
   words-only float h = either float (λ _. slip 7 refl refl) (λ _. h)
 
   operates : (d : VarId) (op : BinaryOp) (x y : IrOp) → Closed (Operates ctx d op x y) (generateBinary ctx d op x y)

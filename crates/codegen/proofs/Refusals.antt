@@ -9,9 +9,11 @@ use native.Mathlib.Omega.{arith}
 use Rattle.cells.specs.Cells.{cellAt, largest, readCell, readWithin, bindCell}
 use Rattle.cells.specs.declared.Cell.{Cell}
 use Rattle.cells.specs.declared.Cursor.{Cursor}
+use Rattle.cells.specs.Refusals.{tornSheet, oversize, pageFull}
 use Rattle.layout.specs.declared.Limited.{Limited}
 use Rattle.layout.specs.declared.Checked.{Checked}
-use Rattle.layout.specs.Layout.{bindLimited, bindChecked, cursor, endCheck, floatsCheck, tablesCheck, limited, countCheck, zerosCheck, fieldsCheck, typeCheck, returnCheck, varCheck, operandCheck, operandsCheck, firstField, flagField, operationMost, hasDest, hasLeft, destCheck, sideCheck, callCheck, bodyCheck, instrCheck, typesCheck, varsCheck, instrsCheck, listsCheck, restCheck, sheetCheck}
+use Rattle.layout.specs.Limits.{mostStrings, mostFloats, mostVariables, mostParameters, mostLabels, mostInstructions, mostArguments, mostCount}
+use Rattle.layout.specs.Layout.{bindLimited, bindChecked, cursor, endCheck, floatsCheck, tablesCheck, limited, countCheck, zerosCheck, fieldsCheck, typeCheck, returnCheck, varCheck, operandCheck, operandsCheck, firstField, flagField, operationMost, hasDest, hasLeft, destCheck, sideCheck, callCheck, bodyCheck, instrCheck, typesCheck, varsCheck, instrsCheck, restHead, headCheck, sheetCheck}
 use Rattle.ir.specs.declared.«Type».{«Type» as IrType}
 use Rattle.ir.specs.declared.VarId.{VarId}
 use Rattle.ir.specs.Types.{noArray, offsetBehind, Result, isFloat}
@@ -106,25 +108,51 @@ cell : (n : ℕ) (x : Cell) {f : ℕ → Cursor → Checked} → OneToThree n �
 cell n (Cell.Word v c) h g = g v c
 cell n (Cell.Wrong k) h g = wrong n h
 
-next : {x : Checked} {f : Cursor → Checked} → Off x → ((c : Cursor) → Off (f c)) → Off (bindChecked x f)
+next : {x : Checked} {f : Cursor → Checked} → Off x → ((c : Cursor) → Off (f c)) → Off (bindChecked Checked.Refused x f)
 next {x} {f} h g = go x refl
   where
-    go : (y : Checked) → x ≡ y → Off (bindChecked y f)
+    go : (y : Checked) → x ≡ y → Off (bindChecked Checked.Refused y f)
     go (Checked.Behind c) e = g c
     go (Checked.Refused n k) e = wrong n (h .of n k e)
 
--- a count
-count : (s : List ℕ) (c : Cursor) (most : ℕ) {f : ℕ → Cursor → Checked} → ((v : ℕ) (c : Cursor) → Off (f v c)) → Off (bindLimited (limited s c most) f)
+-- the same of a number and a cursor
+record OffWord (x : Limited) : Type 0 where
+  of : (n k : ℕ) → x ≡ Limited.Refused n k → OneToThree n
+
+right-word : {v : ℕ} {c : Cursor} → OffWord (Limited.Word v c)
+right-word = record { of = λ n k e. absurd (let z : _≡_ {A = ℕ} 0 1 = cc in omega arith) }
+
+wrong-word : (n : ℕ) {k : ℕ} → OneToThree n → OffWord (Limited.Refused n k)
+wrong-word n h = record { of = λ m j e. subst OneToThree (let z = e in cc) h }
+
+next-word : {x : Checked} {f : Cursor → Limited} → Off x → ((c : Cursor) → OffWord (f c)) → OffWord (bindChecked Limited.Refused x f)
+next-word {x} {f} h g = go x refl
+  where
+    go : (y : Checked) → x ≡ y → OffWord (bindChecked Limited.Refused y f)
+    go (Checked.Behind c) e = g c
+    go (Checked.Refused n k) e = wrong-word n (h .of n k e)
+
+word : {x : Limited} {f : ℕ → Cursor → Checked} → OffWord x → ((v : ℕ) (c : Cursor) → Off (f v c)) → Off (bindLimited Checked.Refused x f)
+word {x} {f} h g = go x refl
+  where
+    go : (y : Limited) → x ≡ y → Off (bindLimited Checked.Refused y f)
+    go (Limited.Word v c) e = g v c
+    go (Limited.Refused n k) e = wrong n (h .of n k e)
+
+-- a count, and what follows it
+count : (s : List ℕ) (c : Cursor) (most : ℕ) {f : ℕ → Cursor → Limited} → ((v : ℕ) (c : Cursor) → OffWord (f v c)) →
+    OffWord (bindLimited Limited.Refused (limited s c most) f)
 unfolding limited
 count s c most {f} g = go (readWithin s c 0 largest)
   where
-    go : (x : Cell) → Off (bindLimited (bindCell (Limited.Refused 2) x (λ v d. cond (ltb most v) (Limited.Refused 3 (c .at)) (Limited.Word v d))) f)
+    go : (x : Cell) →
+        OffWord (bindLimited Limited.Refused (bindCell (Limited.Refused tornSheet) x (λ v d. cond (ltb most v) (Limited.Refused oversize (c .at)) (Limited.Word v d))) f)
     go (Cell.Word v d) = at (ltb most v)
       where
-        at : (b : Bool) → Off (bindLimited (cond b (Limited.Refused 3 (c .at)) (Limited.Word v d)) f)
-        at true = wrong 3 (lit≤ tt, lit≤ tt)
+        at : (b : Bool) → OffWord (bindLimited Limited.Refused (cond b (Limited.Refused oversize (c .at)) (Limited.Word v d)) f)
+        at true = wrong-word 3 (lit≤ tt, lit≤ tt)
         at false = g v d
-    go (Cell.Wrong k) = wrong 2 (lit≤ tt, lit≤ tt)
+    go (Cell.Wrong k) = wrong-word 2 (lit≤ tt, lit≤ tt)
 
 abbrev two-of-three : OneToThree 2
 two-of-three = (lit≤ tt, lit≤ tt)
@@ -141,13 +169,13 @@ floats-off t (suc n) c =
 
 pub tables-off : (t : List ℕ) → Off (tablesCheck t)
 unfolding tablesCheck
-tables-off t = cell 1 (readWithin t (cursor 0) 0 256) (lit≤ tt, lit≤ tt) (λ v d. floats-off t 256 d)
+tables-off t = cell 1 (readWithin t (cursor 0) 0 mostStrings) (lit≤ tt, lit≤ tt) (λ v d. floats-off t mostFloats d)
 
 count-off : (s : List ℕ) (c : Cursor) → Off (countCheck s c)
 unfolding countCheck
 count-off s c =
     cell 2 (readCell s c) two-of-three (λ v d. pick (eqb v noArray) right
-    (pick (ltb largest v) (wrong 2 two-of-three) (pick (ltb 1048576 v) (wrong 3 (lit≤ tt, lit≤ tt)) right)))
+    (pick (ltb largest v) (wrong 2 two-of-three) (pick (ltb mostCount v) (wrong 3 (lit≤ tt, lit≤ tt)) right)))
 
 zeros-off : (s : List ℕ) (n : ℕ) (c : Cursor) → Off (zerosCheck s n c)
 unfolding zerosCheck
@@ -183,13 +211,21 @@ side-off : (s : List ℕ) (b : Bool) (c : Cursor) → Off (sideCheck s b c)
 unfolding sideCheck
 side-off s b c = pick b (operand-off s c) (zeros-off s 4 c)
 
+call-off : (s : List ℕ) (c : Cursor) → OffWord (callCheck s c)
+unfolding callCheck
+call-off s c = go (readWithin s c 0 largest)
+  where
+    go : (x : Cell) → OffWord (bindCell (Limited.Refused tornSheet) x (λ symbol c1. bindLimited Limited.Refused (limited s c1 mostArguments) (λ count c2.
+        bindChecked Limited.Refused (zerosCheck s 6 c2) (λ c3. Limited.Word count c3))))
+    go (Cell.Word v c1) = count s c1 mostArguments (λ n c2. next-word (zeros-off s 6 c2) (λ c3. right-word))
+    go (Cell.Wrong k) = wrong-word 2 two-of-three
+
 instr-off : (s : List ℕ) (c : Cursor) → Off (instrCheck s c)
-unfolding instrCheck destCheck bodyCheck callCheck
+unfolding instrCheck destCheck bodyCheck
 instr-off s c =
     cell 2 (readWithin s c 0 10) two-of-three (λ kind c1. cell 2 (readWithin s c1 0 (operationMost kind)) two-of-three (λ op c2.
     next (pick (hasDest kind op) (var-off s c2) (zeros-off s 3 c2)) (λ c3.
-    pick (eqb kind 5)
-    (cell 2 (readWithin s c3 0 largest) two-of-three (λ v c4. count s c4 64 (λ n c5. next (zeros-off s 6 c5) (λ c6. operands-off s n c6))))
+    pick (eqb kind 5) (word (call-off s c3) (λ n c4. operands-off s n c4))
     (next (side-off s (hasLeft kind) c3) (λ c4. side-off s (eqb kind 2) c4)))))
 
 types-off : (s : List ℕ) (n end : ℕ) (c : Cursor) → Off (typesCheck s n end c)
@@ -197,7 +233,7 @@ unfolding typesCheck
 types-off s zero end c = right
 types-off s (suc n) end c =
     let offset : ℕ = offsetBehind end (record { code = cellAt s (c .at); count = cellAt s (c .at + 1) }) in
-    next (type-off s c) (λ d. pick (ltb 1048576 offset) (wrong 3 (lit≤ tt, lit≤ tt)) (types-off s n offset d))
+    next (type-off s c) (λ d. pick (ltb mostCount offset) (wrong 3 (lit≤ tt, lit≤ tt)) (types-off s n offset d))
 
 vars-off : (s : List ℕ) (n : ℕ) (c : Cursor) → Off (varsCheck s n c)
 unfolding varsCheck
@@ -209,16 +245,20 @@ unfolding instrsCheck
 instrs-off s zero c = right
 instrs-off s (suc n) c = next (instr-off s c) (λ d. instrs-off s n d)
 
+head-off : (s : List ℕ) → OffWord (headCheck s)
+unfolding headCheck restHead
+head-off s =
+    count s (cursor 0) mostVariables (λ vars c1. count s c1 mostParameters (λ params c2. count s c2 mostLabels (λ labels c3.
+    next-word (return-off s c3) (λ c4. count s c4 mostInstructions (λ instrs c5.
+    next-word (types-off s vars 0 c5) (λ c6. next-word (vars-off s params c6) (λ c7. right-word)))))))
+
 pub sheet-off : (s : List ℕ) → Off (sheetCheck s)
-unfolding sheetCheck restCheck listsCheck
-sheet-off s =
-    count s (cursor 0) 256 (λ vars c1. count s c1 256 (λ params c2. count s c2 256 (λ labels c3.
-    next (return-off s c3) (λ c4. count s c4 4096 (λ instrs c5.
-    next (types-off s vars 0 c5) (λ c6. next (vars-off s params c6) (λ c7. next (instrs-off s instrs c7) (λ c8. ending 2 s c8 two-of-three))))))))
+unfolding sheetCheck
+sheet-off s = word (head-off s) (λ instrs c. next (instrs-off s instrs c) (λ end. ending 2 s end two-of-three))
 
 -- ---- every answer
 
--- a refusal is one of 1 to 7, or 9 (01, "The turned-away slip"; M-112: 8 no longer occurs)
+-- a refusal is one of 1 to 7, or 9 (docs/FORMAT.md, "Refusals"; M-112: 8 no longer occurs)
 abbrev pub Known : ℕ → Type 0
 Known n = (1 ≤ n) × (n ≤ 9) × (n ≡ 8 → ⊥)
 
@@ -241,7 +281,7 @@ pub lowered-answers : (tables sheet : List ℕ) (m : ℕ) → Answers (lowered t
 unfolding lowered
 lowered-answers tables sheet m = go (compiled tables sheet) refl
   where
-    paged : (is : List Instruction) (b : Bool) → Answers (cond b (generation.refused 9 (length is)) (accepted is))
+    paged : (is : List Instruction) (b : Bool) → Answers (cond b (generation.refused pageFull (length is)) (accepted is))
     paged is true = record { of = λ n p e. subst Known (let z = e in cc) (lit≤ tt, lit≤ tt, λ (z : _≡_ {A = ℕ} 9 8). omega arith) }
     paged is false = record { of = λ n p e. absurd (not-accepted e) }
 

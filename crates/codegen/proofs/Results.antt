@@ -45,7 +45,7 @@ guard n b h = choose b h (λ e. refuses n)
 
 -- ---- the refusals too
 
--- the numbers by which the lowering refuses (01, "The turned-away slip"); 8 no longer occurs (02, M-112)
+-- the numbers by which the lowering refuses (docs/FORMAT.md, "Refusals"); 8 no longer occurs (M-112)
 abbrev pub FourToSeven : ℕ → Type 0
 FourToSeven n = (4 ≤ n) × (n ≤ 7)
 

@@ -18,6 +18,7 @@ use Rattle.x86.specs.declared.enums.ExtendOp.{ExtendOp}
 use Rattle.x86.specs.declared.enums.Instruction.{Instruction}
 use Rattle.x86.specs.Registers.{RAX, RCX, RDX, RSP, RBP, RSI, RDI, R8, R9, rbpPlus, rspPlus}
 use Rattle.cells.specs.Cells.{minus}
+use Rattle.cells.specs.Refusals.{noWidth}
 use Rattle.codegen.specs.Context.{contextOf, displacement}
 use Rattle.codegen.specs.Utils.{sizeFrom, varSize, convertVar, convertOperand, loadFrom, ownSize, loadValue, loadOperand}
 use Rattle.codegen.specs.Instructions.{move, excess, loadArguments, pushArguments, storeResult, generateCall}
@@ -67,6 +68,6 @@ eight-received = refl
 -- on one parameter in excess 4 and 6 come before 5; on one in a register 5 does
 no-width-first :
     funcPrologue (contextOf tables (8 ∷ [])) 16
-    (variable 0 1 ∷ variable 0 1 ∷ variable 0 1 ∷ variable 0 1 ∷ variable 0 1 ∷ variable 0 1 ∷ variable 9 11 ∷ []) ≡ refused 4
+    (variable 0 1 ∷ variable 0 1 ∷ variable 0 1 ∷ variable 0 1 ∷ variable 0 1 ∷ variable 0 1 ∷ variable 9 11 ∷ []) ≡ refused noWidth
 unfolding funcPrologue excess storeParams copyParams convertVar displacement varSize typeSize sizeFrom isFloat elementWidth bytes loadFrom
 no-width-first = refl

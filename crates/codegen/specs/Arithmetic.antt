@@ -4,6 +4,7 @@ use mathlib.Core.List.{List, [], _∷_, _++_}
 use mathlib.Core.Bool.{Bool, true, false, cond, _||_, _&&_}
 use lib.Dec.{eqb, leb}
 use Rattle.cells.specs.Cells.{minus}
+use Rattle.cells.specs.Refusals.{noLowering}
 use Rattle.ir.specs.declared.VarId.{VarId}
 use Rattle.ir.specs.declared.Operand.{Operand as IrOp}
 use Rattle.ir.specs.declared.UnaryOp.{UnaryOp as IrUnary}
@@ -81,7 +82,7 @@ shift ctx dest left right op = twoLoads ctx dest left right (λ size. Instructio
 
 -- ---- comparisons
 
--- for an unsigned, non-float left G, GE, L, LE turn to A, AE, B, BE: codes 2 to 5 become the code plus 4 and the others stay (02, M-103)
+-- for an unsigned, non-float left G, GE, L, LE turn to A, AE, B, BE: codes 2 to 5 become the code plus 4 and the others stay (M-103)
 unfoldable pub unsignedCode : ConditionCode → ConditionCode
 unsignedCode cc = cond (leb 2 (conditionCode cc) && leb (conditionCode cc) 5) (conditionOf (conditionCode cc + 4)) cc
 
@@ -127,29 +128,29 @@ comparison ctx dest left right cc = do
 
 -- only + - * / are done on a float
 abbrev pub floatBinary : Context → VarId → BinaryOp → IrOp → IrOp → Result (List Instruction)
-floatBinary ctx dest BinaryOp.Or left right = refused 7
-floatBinary ctx dest BinaryOp.And left right = refused 7
-floatBinary ctx dest BinaryOp.BitOr left right = refused 7
-floatBinary ctx dest BinaryOp.BitXor left right = refused 7
-floatBinary ctx dest BinaryOp.BitAnd left right = refused 7
-floatBinary ctx dest BinaryOp.Eq left right = refused 7
-floatBinary ctx dest BinaryOp.NotEq left right = refused 7
-floatBinary ctx dest BinaryOp.Lt left right = refused 7
-floatBinary ctx dest BinaryOp.Le left right = refused 7
-floatBinary ctx dest BinaryOp.Gt left right = refused 7
-floatBinary ctx dest BinaryOp.Ge left right = refused 7
-floatBinary ctx dest BinaryOp.Shl left right = refused 7
-floatBinary ctx dest BinaryOp.Shr left right = refused 7
+floatBinary ctx dest BinaryOp.Or left right = refused noLowering
+floatBinary ctx dest BinaryOp.And left right = refused noLowering
+floatBinary ctx dest BinaryOp.BitOr left right = refused noLowering
+floatBinary ctx dest BinaryOp.BitXor left right = refused noLowering
+floatBinary ctx dest BinaryOp.BitAnd left right = refused noLowering
+floatBinary ctx dest BinaryOp.Eq left right = refused noLowering
+floatBinary ctx dest BinaryOp.NotEq left right = refused noLowering
+floatBinary ctx dest BinaryOp.Lt left right = refused noLowering
+floatBinary ctx dest BinaryOp.Le left right = refused noLowering
+floatBinary ctx dest BinaryOp.Gt left right = refused noLowering
+floatBinary ctx dest BinaryOp.Ge left right = refused noLowering
+floatBinary ctx dest BinaryOp.Shl left right = refused noLowering
+floatBinary ctx dest BinaryOp.Shr left right = refused noLowering
 floatBinary ctx dest BinaryOp.Add left right = floatOperation ctx dest left right BinOp.AddF
 floatBinary ctx dest BinaryOp.Sub left right = floatOperation ctx dest left right BinOp.SubF
 floatBinary ctx dest BinaryOp.Mul left right = floatOperation ctx dest left right BinOp.MulF
 floatBinary ctx dest BinaryOp.Div left right = floatOperation ctx dest left right BinOp.DivF
-floatBinary ctx dest BinaryOp.Rem left right = refused 7
+floatBinary ctx dest BinaryOp.Rem left right = refused noLowering
 
 -- the logical pair never reaches the lowering
 abbrev pub integerBinary : Context → VarId → BinaryOp → IrOp → IrOp → Result (List Instruction)
-integerBinary ctx dest BinaryOp.Or left right = refused 7
-integerBinary ctx dest BinaryOp.And left right = refused 7
+integerBinary ctx dest BinaryOp.Or left right = refused noLowering
+integerBinary ctx dest BinaryOp.And left right = refused noLowering
 integerBinary ctx dest BinaryOp.BitOr left right = simpleOperation ctx dest left right BinOp.Or
 integerBinary ctx dest BinaryOp.BitXor left right = simpleOperation ctx dest left right BinOp.Xor
 integerBinary ctx dest BinaryOp.BitAnd left right = simpleOperation ctx dest left right BinOp.And

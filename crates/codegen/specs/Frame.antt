@@ -4,6 +4,7 @@ use mathlib.Core.List.{List, [], _∷_, _++_}
 use mathlib.Core.Bool.{Bool, true, false, cond, _&&_, not, Bool·beq}
 use lib.ListN.{length, getD}
 use lib.Dec.{ltb, eqb}
+use Rattle.cells.specs.Refusals.{noWidth}
 use Rattle.ir.specs.declared.«Type».{«Type» as IrType}
 use Rattle.ir.specs.declared.VarId.{VarId}
 use Rattle.ir.specs.Types.{Result, ok, refused, _>>=_, elementWidth, offsetBehind, lastOffset, isFloat}
@@ -25,7 +26,7 @@ unfoldable pub offsetsFrom : ℕ → List IrType → List ℕ
 offsetsFrom end [] = []
 offsetsFrom end (t ∷ ts) = offsetBehind end t ∷ offsetsFrom (offsetBehind end t) ts
 
--- the last offset, which 01's totals mean (02, M-110)
+-- the last offset, which the frame goes by (M-110)
 abbrev pub total : List IrType → ℕ
 total vars = lastOffset 0 vars
 
@@ -35,7 +36,7 @@ haveWidths [] = true
 haveWidths (t ∷ ts) = not (eqb (elementWidth (t .code)) 0) && haveWidths ts
 
 unfoldable pub varOffsets : List IrType → Result (List ℕ)
-varOffsets vars = cond (haveWidths vars) (ok (offsetsFrom 0 vars)) (refused 4)
+varOffsets vars = cond (haveWidths vars) (ok (offsetsFrom 0 vars)) (refused noWidth)
 
 -- ---- the prologue
 

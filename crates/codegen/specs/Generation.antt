@@ -4,6 +4,8 @@ use mathlib.Core.List.{List, [], _∷_, _++_}
 use mathlib.Core.Bool.{Bool, true, false, cond}
 use lib.ListN.{length, drop}
 use lib.Dec.{ltb}
+pub use Rattle.cells.specs.Outcomes.{Outcome, accepted, refused, _>>=_}
+use Rattle.cells.specs.Refusals.{pageFull}
 use Rattle.ir.specs.declared.«Type».{«Type» as IrType}
 use Rattle.ir.specs.declared.Instr.{Instr}
 use Rattle.ir.specs.declared.Operand.{Operand as IrOp}
@@ -20,16 +22,7 @@ use Rattle.codegen.specs.Instructions.{funcEpilogue, generateReturn, gen
 use Rattle.codegen.specs.Arithmetic.{generateBinary, generateUnary}
 use Rattle.codegen.specs.Frame.{varOffsets, frame, funcPrologue}
 
--- ---- answers with a place: a cell, 0 before the body, the instruction's number from 1, or the records needed (01, "The turned-away slip")
-
-pub data Outcome (A : Type 0) : Type 0 where
-  accepted : A → Outcome A
-  refused : ℕ → ℕ → Outcome A
-
-infixl 20 _>>=_
-abbrev pub _>>=_ : {A B : Type 0} → Outcome A → (A → Outcome B) → Outcome B
-accepted a >>= f = f a
-refused n place >>= f = refused n place
+-- ---- an answer with the place of its refusal: 0 before the body, or the instruction's number from 1
 
 abbrev pub at : {A : Type 0} → ℕ → Result A → Outcome A
 at place (ok a) = accepted a
@@ -116,7 +109,7 @@ compiled tables sheet = checked (tablesCheck tables) (λ u. checked (sheetCheck 
 
 -- page full: refusal 9 with the records needed, where the record bytes are fewer than 64 times the records
 abbrev pub page : ℕ → List Instruction → Outcome (List Instruction)
-page m is = cond (ltb m (64 * length is)) (refused 9 (length is)) (accepted is)
+page m is = cond (ltb m (64 * length is)) (refused pageFull (length is)) (accepted is)
 
 unfoldable pub lowered : List ℕ → List ℕ → ℕ → Outcome (List Instruction)
 lowered tables sheet m = compiled tables sheet >>= page m

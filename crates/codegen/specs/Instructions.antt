@@ -117,7 +117,7 @@ castBetween ctx dest s false true n = sizeFrom (s .size) >>= λ size. converted 
 castBetween ctx dest s true false n = varSize dest >>= λ size. converted ctx dest s (cond (eqb (s .size) 8) ConvOp.Cvttsd2si ConvOp.Cvttss2si) RAX size
 castBetween ctx dest s false false n = extended ctx dest s
 
--- an unsigned short, variable or constant, which widens with zeros (02, M-105); an array is none
+-- an unsigned short, variable or constant, which widens with zeros (M-105); an array is none
 abbrev pub isUnsignedShort : IrOp → Bool
 isUnsignedShort (IrOp.Var v) = isScalar (v .ty) && eqb (v .ty .code) 4
 isUnsignedShort (IrOp.Int n short unsigned) = short && unsigned
@@ -127,7 +127,7 @@ isUnsignedShort (IrOp.Address v) = false
 isUnsignedShort (IrOp.DataAddress k) = false
 isUnsignedShort IrOp.Null = false
 
--- its cast to an integer of eight bytes: a four-byte load into RAX, and the store (02, M-105)
+-- its cast to an integer of eight bytes: a four-byte load into RAX, and the store (M-105)
 unfoldable pub zeroExtended : Context → VarId → IrOp → Result (List Instruction)
 zeroExtended ctx dest src = do
   load ← loadOperand ctx RAX src Size.U32

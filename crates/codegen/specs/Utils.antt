@@ -2,6 +2,7 @@
 use Prim.Native.Nat.{ℕ}
 use mathlib.Core.Bool.{Bool, true, false, cond}
 use lib.Dec.{eqb}
+use Rattle.cells.specs.Refusals.{oddWidth, noLowering}
 use Rattle.ir.specs.declared.VarId.{VarId}
 use Rattle.ir.specs.declared.Operand.{Operand as IrOp}
 use Rattle.ir.specs.Types.{Result, ok, refused, _>>=_, typeSize, operandSize}
@@ -16,7 +17,7 @@ use Rattle.codegen.specs.Context.{Context, displacement, stringAt, float
 
 -- `Size::from`: refusal 6 on other than 1, 2, 4, 8
 unfoldable pub sizeFrom : ℕ → Result Size
-sizeFrom n = cond (eqb n 1) (ok Size.U8) (cond (eqb n 2) (ok Size.U16) (cond (eqb n 4) (ok Size.U32) (cond (eqb n 8) (ok Size.U64) (refused 6))))
+sizeFrom n = cond (eqb n 1) (ok Size.U8) (cond (eqb n 2) (ok Size.U16) (cond (eqb n 4) (ok Size.U32) (cond (eqb n 8) (ok Size.U64) (refused oddWidth))))
 
 -- the size of a move that touches a variable
 unfoldable pub varSize : VarId → Result Size
@@ -32,8 +33,8 @@ convertOperand ctx (IrOp.Var v) = convertVar ctx v
 convertOperand ctx (IrOp.Int n short unsigned) = ok (Operand.Imm n)
 convertOperand ctx (IrOp.Float k) = floatAt ctx k >>= λ f. ok (ripFloat f)
 convertOperand ctx (IrOp.Bool b) = ok (Operand.Imm (cond b 1 0))
-convertOperand ctx (IrOp.Address v) = refused 7
-convertOperand ctx (IrOp.DataAddress k) = refused 7
+convertOperand ctx (IrOp.Address v) = refused noLowering
+convertOperand ctx (IrOp.DataAddress k) = refused noLowering
 convertOperand ctx IrOp.Null = ok (Operand.Imm 0)
 
 -- `Option::or`
@@ -73,7 +74,7 @@ loadFrom reg src size =
 unfoldable pub loadString : Context → Register → ℕ → Result Instruction
 loadString ctx reg k = stringAt ctx k >>= λ s. ok (Instruction.Lea (ripString s) reg Size.NoSize)
 
--- an operand's own size: a float constant has that of its table's entry (02, M-102), any other that of `Operand::size`
+-- an operand's own size: a float constant has that of its table's entry (M-102), any other that of `Operand::size`
 unfoldable pub ownSize : Context → IrOp → Size
 ownSize ctx (IrOp.Var v) = operandSize (IrOp.Var v)
 ownSize ctx (IrOp.Int n short unsigned) = operandSize (IrOp.Int n short unsigned)

@@ -2,43 +2,33 @@
 // the registers (M-112).
 use x86::register::Register;
 ghost use mathlib.Core.Path.{_≡_};
-ghost use Prim.Native.Nat.{_≤_};
+ghost use mathlib.Core.Bool.{false};
+ghost use Prim.Native.Nat.{_≤_, _<_};
 ghost use lib.ListN.{length, getD};
 ghost use Rattle.x86.specs.Registers.{RAX};
 ghost use Rattle.codegen.specs.Frame.{registersOf};
 ghost use Rattle.codegen.specs.Instructions.{registerOf};
 ghost use Rattle.codegen.specs.Excess.{isBeyond, behindOne};
 
-// It gives the register of the parameter of rank `k` among those that are floats, or among those that are not.
+// The parameter of rank `k` among those that are floats, or among those that are not, has this register.
 pub fn param_register(float: bool, k: u64) -> Register
+    requires { ⌜ k < length (registersOf float) ⌝ }
     ensures { λ r. ⌜ r ≡ getD (registersOf float) k RAX ⌝ }
 {
     if float {
-        match k {
-            0 => Register::XMM0,
-            1 => Register::XMM1,
-            2 => Register::XMM2,
-            3 => Register::XMM3,
-            4 => Register::XMM4,
-            5 => Register::XMM5,
-            6 => Register::XMM6,
-            7 => Register::XMM7,
-            _ => Register::RAX,
-        }
-    } else {
-        match k {
-            0 => Register::RDI,
-            1 => Register::RSI,
-            2 => Register::RDX,
-            3 => Register::RCX,
-            4 => Register::R8,
-            5 => Register::R9,
-            _ => Register::RAX,
-        }
+        return Register::xmm(k);
+    }
+    match k {
+        0 => Register::RDI,
+        1 => Register::RSI,
+        2 => Register::RDX,
+        3 => Register::RCX,
+        // R8 and R9 are left; a match on a u64 has to take all ranks above too.
+        4.. => Register::gpr(k + 4),
     }
 }
 
-// It says how many registers there are for them.
+// So many registers there are for them.
 pub fn registers(float: bool) -> u64
     ensures { λ r. ⌜ r ≡ length (registersOf float) ⌝ }
 {
@@ -72,6 +62,7 @@ impl Taken {
 
     // This is the register that it finds.
     pub fn register(self, float: bool) -> Register
+        requires { ⌜ isBeyond float self ≡ false ⌝ }
         ensures { λ r. ⌜ r ≡ registerOf float (self .words) (self .floats) ⌝ }
     {
         if float {

@@ -30,10 +30,10 @@ ghost use Rattle.x86.specs.Registers.{RAX};
 ghost use Rattle.x86.specs.Records.{listBytes};
 ghost use Rattle.codegen.specs.Utils.{sizeOr};
 ghost use Rattle.codegen.specs.Instructions.{move};
-ghost use Rattle.codegen.specs.Arithmetic.{unsignedCode, isSwapped, floatCode, ordered, compared, floatComparison, comparison};
+ghost use Rattle.codegen.specs.Arithmetic.{unsignedCode, isSwapped, floatCode, comparison};
 ghost use Rattle.utils.specs.Answers.{lent};
 ghost use Rattle.utils.specs.Makes.{Makes, Ready};
-ghost use Rattle.comparisons.specs.Looks.{sidesSay, moreOf, lookCompared, comparedOf};
+ghost use Rattle.comparisons.specs.Looks.{sidesSay, moreOf, moreFor, floatChoice, chosen, comparedBy, lookCompared, comparedOf};
 
 // The look-ups find the sources of both sides, dest's slot and dest's size.
 pub struct Sides {
@@ -52,6 +52,17 @@ pub enum SidesResult {
 pub enum More {
     Nothing,
     Parity(ConditionCode, BinOp),
+}
+
+// The operands at two cells go into two registers. These are compared by an operation, and a code reads the flags.
+pub struct Choice {
+    pub a: Register,
+    pub left: usize,
+    pub b: Register,
+    pub right: usize,
+    pub op: BinOp,
+    pub cc: ConditionCode,
+    pub more: More,
 }
 
 // For an unsigned left that is no float G, GE, L, LE turn to A, AE, B, BE: codes 2 to 5 become the code plus 4.
@@ -95,7 +106,7 @@ fn float_code(cc: ConditionCode) -> ConditionCode
 
 // Equality of floats asks the parity flag too: `sete al ; setnp cl ; and al, cl`, or `setne al ; setp cl ; or al, cl`.
 fn ordered(cc: ConditionCode) -> More
-    ensures { λ r. ⌜ moreOf r ≡ ordered cc ⌝ }
+    ensures { λ r. ⌜ r ≡ moreFor cc ⌝ }
 {
     match cc.code() {
         0 => More::Parity(ConditionCode::NP, BinOp::And),
@@ -104,7 +115,42 @@ fn ordered(cc: ConditionCode) -> More
     }
 }
 
-// It counts a comparison's records.
+fn float_choice(left: usize, right: usize, cc: ConditionCode, more: More) -> Choice
+    ensures { λ r. ⌜ r ≡ floatChoice left right cc more ⌝ }
+{
+    Choice {
+        a: Register::XMM0,
+        left,
+        b: Register::XMM1,
+        right,
+        op: BinOp::UcomiF,
+        cc,
+        more,
+    }
+}
+
+// The code is signed where left is. A float's L and LE have the sides swapped.
+fn chosen(left: usize, right: usize, float: bool, unsigned: bool, cc: ConditionCode) -> Choice
+    ensures { λ r. ⌜ r ≡ chosen left right float unsigned cc ⌝ }
+{
+    if float {
+        let code = float_code(cc);
+        if is_swapped(cc) {
+            return float_choice(right, left, code, More::Nothing);
+        }
+        return float_choice(left, right, code, ordered(cc));
+    }
+    Choice {
+        a: Register::RAX,
+        left,
+        b: Register::RCX,
+        right,
+        op: BinOp::Cmp,
+        cc: integer_code(unsigned, cc),
+        more: More::Nothing,
+    }
+}
+
 fn records(more: More) -> u64
     ensures { λ r. ⌜ r ≡ length (moreOf more) + 5 ⌝ }
 {
@@ -151,7 +197,7 @@ fn look_compared(
     }
 }
 
-// It writes what else is asked, and the store to dest.
+// What else is asked, and the store to dest.
 fn put_store(out: &mut [u8], at: usize, var: Operand, stored: Size, more: More)
     requires { ⌜ at + 64 * (length (moreOf more) + 1) ≤ length (now out) ⌝ }
     ensures { λ _. ⌜ now (out .exit) ≡ write (now (out .entry)) at (listBytes (moreOf more ++ move var (Operand.Reg RAX) stored ∷ [])) ⌝ }
@@ -183,25 +229,20 @@ fn put_store(out: &mut [u8], at: usize, var: Operand, stored: Size, more: More)
     }
 }
 
-// It writes both sides, the comparison, the flag, what else is asked, and the store.
-fn put_compared(
-    out: &mut [u8],
-    at: usize,
-    t: Sides,
-    a: Register,
-    b: Register,
-    size: Size,
-    op: BinOp,
-    cc: ConditionCode,
-    more: More,
-)
-    requires { ⌜ at + 64 * (length (moreOf more) + 5) ≤ length (now out) ⌝ }
-    ensures { λ _. ⌜ now (out .exit) ≡ write (now (out .entry)) at (listBytes (comparedOf a b size op cc (moreOf more) t)) ⌝ }
+// Both sides, the comparison, the flag, what else is asked, and the store.
+fn put_compared(out: &mut [u8], at: usize, sides: Sides, t: Choice, size: Size)
+    requires { ⌜ at + 64 * (length (moreOf (t .more)) + 5) ≤ length (now out) ⌝ }
+    ensures { λ _. ⌜ now (out .exit) ≡ write (now (out .entry)) at (listBytes (comparedOf size t sides)) ⌝ }
 {
-    let left = t.left;
-    let right = t.right;
-    let var = t.var;
-    let stored = t.stored;
+    let left = sides.left;
+    let right = sides.right;
+    let var = sides.var;
+    let stored = sides.stored;
+    let a = t.a;
+    let b = t.b;
+    let op = t.op;
+    let cc = t.cc;
+    let more = t.more;
     put_load(out, at, a, left, size);
     put_load(out, at + 64, b, right, size);
     put_instruction(
@@ -230,30 +271,25 @@ fn compared(
     offsets: &[u64],
     s: &[u8],
     dest: usize,
-    a: Register,
-    left: usize,
-    b: Register,
-    right: usize,
+    t: Choice,
     size: Size,
-    op: BinOp,
-    cc: ConditionCode,
-    more: More,
     out: &mut [u8],
     at: usize,
     write: bool,
 ) -> CountResult
     requires { ⌜ dest + 3 ≤ cells (now s) ⌝ }
-    requires { ⌜ left + 4 ≤ cells (now s) ⌝ }
-    requires { ⌜ right + 4 ≤ cells (now s) ⌝ }
+    requires { ⌜ t .left + 4 ≤ cells (now s) ⌝ }
+    requires { ⌜ t .right + 4 ≤ cells (now s) ⌝ }
     requires { ⌜ ((z : Size) → sizeOr size z ≡ size) ⌝ }
-    requires { ⌜ Ready write (compared (lent (now tables) (now offsets)) (varAt (now s) dest) a (operandAt (now s) left) b (operandAt (now s) right) size op cc (moreOf more)) at (length (now out)) ⌝ }
-    ensures { λ r. ⌜ Makes write (compared (lent (now (tables .entry)) (now (offsets .entry))) (varAt (now (s .entry)) dest) a (operandAt (now (s .entry)) left) b (operandAt (now (s .entry)) right) size op cc (moreOf more)) at (now (out .entry)) (now (out .exit)) r ⌝ }
+    requires { ⌜ Ready write (comparedBy (lent (now tables) (now offsets)) (now s) (varAt (now s) dest) size t) at (length (now out)) ⌝ }
+    ensures { λ r. ⌜ Makes write (comparedBy (lent (now (tables .entry)) (now (offsets .entry))) (now (s .entry)) (varAt (now (s .entry)) dest) size t) at (now (out .entry)) (now (out .exit)) r ⌝ }
 {
-    match look_compared(tables, offsets, s, dest, left, right) {
-        SidesResult::Are(t) => {
+    match look_compared(tables, offsets, s, dest, t.left, t.right) {
+        SidesResult::Are(sides) => {
+            let more = t.more;
             let count = records(more);
             if write {
-                put_compared(out, at, t, a, b, size, op, cc, more);
+                put_compared(out, at, sides, t, size);
             }
             CountResult::Records(count)
         }
@@ -261,63 +297,6 @@ fn compared(
     }
 }
 
-fn float_comparison(
-    tables: &[u8],
-    offsets: &[u64],
-    s: &[u8],
-    k: usize,
-    size: Size,
-    cc: ConditionCode,
-    out: &mut [u8],
-    at: usize,
-    write: bool,
-) -> CountResult
-    requires { ⌜ k + 13 ≤ cells (now s) ⌝ }
-    requires { ⌜ ((z : Size) → sizeOr size z ≡ size) ⌝ }
-    requires { ⌜ Ready write (floatComparison (lent (now tables) (now offsets)) (varAt (now s) (k + 2)) (operandAt (now s) (k + 5)) (operandAt (now s) (k + 9)) size cc) at (length (now out)) ⌝ }
-    ensures { λ r. ⌜ Makes write (floatComparison (lent (now (tables .entry)) (now (offsets .entry))) (varAt (now (s .entry)) (k + 2)) (operandAt (now (s .entry)) (k + 5)) (operandAt (now (s .entry)) (k + 9)) size cc) at (now (out .entry)) (now (out .exit)) r ⌝ }
-{
-    let code = float_code(cc);
-    if is_swapped(cc) {
-        return compared(
-            tables,
-            offsets,
-            s,
-            k + 2,
-            Register::XMM0,
-            k + 9,
-            Register::XMM1,
-            k + 5,
-            size,
-            BinOp::UcomiF,
-            code,
-            More::Nothing,
-            out,
-            at,
-            write,
-        );
-    }
-    let more = ordered(cc);
-    compared(
-        tables,
-        offsets,
-        s,
-        k + 2,
-        Register::XMM0,
-        k + 5,
-        Register::XMM1,
-        k + 9,
-        size,
-        BinOp::UcomiF,
-        code,
-        more,
-        out,
-        at,
-        write,
-    )
-}
-
-// The code is signed where left is.
 pub fn comparison(
     tables: &[u8],
     offsets: &[u64],
@@ -340,25 +319,6 @@ pub fn comparison(
         SizeResult::Is(size) => size,
         SizeResult::Refused(n) => return CountResult::Refused(n),
     };
-    if kind.float {
-        return float_comparison(tables, offsets, s, k, size, cc, out, at, write);
-    }
-    let code = integer_code(kind.unsigned, cc);
-    compared(
-        tables,
-        offsets,
-        s,
-        k + 2,
-        Register::RAX,
-        k + 5,
-        Register::RCX,
-        k + 9,
-        size,
-        BinOp::Cmp,
-        code,
-        More::Nothing,
-        out,
-        at,
-        write,
-    )
+    let t = chosen(k + 5, k + 9, kind.float, kind.unsigned, cc);
+    compared(tables, offsets, s, k + 2, t, size, out, at, write)
 }

@@ -1,17 +1,14 @@
 // This is the frame of Krc's codegen/generation.rs: `var_offsets` and `func_prologue`.
-use cells::Cursor;
+use cells::refusals::NO_WIDTH;
 use codegen::registers::Taken;
 use codegen::registers::param_register;
 use codegen::registers::registers;
-use ir::Type;
 use ir::VarId;
 use ir::read::type_at;
 use ir::read::var_at;
 use ir::types::Number;
 use ir::types::element_width;
-use layout::Checked;
-use layout::parts::MOST_BYTES;
-use layout::parts::type_check;
+use ir::types::offset_behind;
 use records::put_instruction;
 use utils::CountResult;
 use utils::OperandResult;
@@ -22,6 +19,7 @@ use utils::put_load;
 use utils::slots::Slot;
 use utils::slots::SlotResult;
 use utils::slots::look_slot;
+use utils::store_op;
 use utils::var_size;
 use x86::enums::BinOp;
 use x86::enums::Instruction;
@@ -32,29 +30,25 @@ use x86::mem_address::Base;
 use x86::mem_address::MemAddress;
 use x86::register::Register;
 ghost use mathlib.Core.Path.{_≡_};
-ghost use mathlib.Core.Bool.{true, _&&_, not};
-ghost use Prim.Native.Nat.{_+_, _*_, _≤_};
+ghost use mathlib.Core.Bool.{_&&_, not};
+ghost use Prim.Native.Nat.{_+_, _*_, _≤_, _<_};
 ghost use lib.Dec.{eqb};
-ghost use lib.ListN.{length, take};
+ghost use lib.ListN.{length};
 ghost use Rattle.cells.specs.Cells.{cells, write};
-ghost use Rattle.ir.specs.Types.{ok, elementWidth, offsetBehind};
-ghost use Rattle.ir.specs.Function.{typesAt, varsAt};
-ghost use Rattle.layout.specs.Layout.{accepts, typesCheck};
+ghost use Rattle.ir.specs.Types.{ok, elementWidth};
+ghost use Rattle.ir.specs.Function.{varsAt};
+ghost use Rattle.layout.specs.declared.Checked.{Checked};
+ghost use Rattle.layout.specs.Limits.{mostVariables, mostParameters};
+ghost use Rattle.layout.specs.Layout.{cursor, typesCheck};
 ghost use Rattle.x86.specs.Records.{recordOf, recordBytes, listBytes};
 ghost use Rattle.codegen.specs.Instructions.{excess};
-ghost use Rattle.codegen.specs.Frame.{offsetsFrom, storeOf, storeParams, copyParams, isFloatParam, funcPrologue};
+ghost use Rattle.codegen.specs.Frame.{registersOf, storeParams, copyParams, isFloatParam, funcPrologue};
 ghost use Rattle.utils.specs.Answers.{lent};
 ghost use Rattle.utils.specs.Makes.{Makes, Ready};
 ghost use Rattle.utils.specs.Slots.{slotSays};
 ghost use Rattle.codegen.specs.Excess.{ifBeyond};
-ghost use Rattle.frame.specs.Sizes.{totalOf, sizesAt, typedOf, offsetsAfter};
+ghost use Rattle.frame.specs.Sizes.{totalOf, sizesAt, offsetsAfter};
 ghost use Rattle.frame.specs.Stores.{entering, paramOf, storeOne, storeParam, lookCopied, copiedOf, copyOne};
-
-// The variables' types come to the last offset and the cursor behind them, or to the first wrong cell.
-pub enum Typed {
-    Sized(Number, Cursor),
-    Wrong(u64, usize),
-}
 
 fn has_width(code: u64) -> bool
     ensures { λ r. ⌜ r ≡ not (eqb (elementWidth code) 0) ⌝ }
@@ -69,70 +63,39 @@ fn total_of(widths: bool, end: u64) -> Number
     if widths {
         Number::Is(end)
     } else {
-        Number::Refused(4)
+        Number::Refused(NO_WIDTH)
     }
 }
 
-// The offset of a variable behind one of offset `end` is a multiple of its element's width. A division by a constant is a shift.
-fn offset_behind(end: u64, ty: Type) -> u64
-    requires { ⌜ end ≤ 1048576 ⌝ }
-    ensures { λ r. ⌜ r ≡ offsetBehind end ty ⌝ }
-{
-    let size = ty.bytes();
-    let sum = end + size;
-    let width = element_width(ty.code);
-    match width {
-        1 => sum,
-        4 => (sum + 3) / 4 * 4,
-        8 => (sum + 7) / 8 * 8,
-        _ => end,
-    }
-}
-
-// It reads the `n` variable types from a cursor on, and computes the offset of each variable. The offset stays within its limit: the count cell of the
-// variable that first passes it is refused. The numbers from the first wrong type's on stay as they were.
-pub fn var_offsets(s: &[u8], n: u64, c: Cursor, offsets: &mut [u64; 256]) -> Typed
-    requires { ⌜ n ≤ 256 ⌝ }
+// This is Krc's `var_offsets`, on the `n` variable types from cell `from` on, whose layout is right. The numbers behind the offsets stay as they were.
+pub fn var_offsets(s: &[u8], n: u64, from: usize, offsets: &mut [u64; 256]) -> Number
+    requires { ⌜ n ≤ mostVariables ⌝ }
     requires { ⌜ length (now offsets) ≡ 256 ⌝ }
-    ensures { λ r. ⌜ r ≡ typedOf (typesCheck (now (s .entry)) n 0 c) (sizesAt (now (s .entry)) n (c .at)) ⌝ }
-    ensures { λ r. ⌜ length (now (offsets .exit)) ≡ length (now (offsets .entry)) ⌝ }
-    ensures { λ r. ⌜ (accepts (typesCheck (now (s .entry)) n 0 c) ≡ true → take n (now (offsets .exit)) ≡ offsetsFrom 0 (typesAt (now (s .entry)) n (c .at))) ⌝ }
-    ensures { λ r. ⌜ now (offsets .exit) ≡ offsetsAfter (now (s .entry)) n c (now (offsets .entry)) ⌝ }
+    requires { ⌜ typesCheck (now s) n 0 (cursor from) ≡ Checked.Behind (cursor (from + 2 * n)) ⌝ }
+    ensures { λ r. ⌜ r ≡ sizesAt (now (s .entry)) n from ⌝ }
+    ensures { λ r. ⌜ now (offsets .exit) ≡ offsetsAfter (now (s .entry)) n from (now (offsets .entry)) ⌝ }
 {
     let mut left = n;
+    let mut cell = from;
     let mut k: usize = 0;
     let mut end: u64 = 0;
     let mut widths = true;
-    let mut here = c;
     while 0 < left {
-        let next = match type_check(s, here) {
-            Checked::Behind(next) => next,
-            Checked::Refused(number, cell) => return Typed::Wrong(number, cell),
-        };
-        let ty = type_at(s, here.at);
+        let ty = type_at(s, cell);
         end = offset_behind(end, ty);
-        if MOST_BYTES < end {
-            return Typed::Wrong(3, here.at + 1);
-        }
         offsets[k] = end;
         widths = both(widths, has_width(ty.code));
-        here = next;
+        cell += 2;
         k += 1;
         left -= 1;
     }
-    Typed::Sized(total_of(widths, end), here)
+    total_of(widths, end)
 }
 
 fn both(a: bool, b: bool) -> bool
     ensures { λ r. ⌜ r ≡ (a && b) ⌝ }
 {
     if a { b } else { false }
-}
-
-fn store_op(float: bool) -> BinOp
-    ensures { λ r. ⌜ r ≡ storeOf float ⌝ }
-{
-    if float { BinOp::StoreF } else { BinOp::Mov }
 }
 
 fn put_param(out: &mut [u8], at: usize, t: Slot, op: BinOp, reg: Register)
@@ -164,6 +127,7 @@ fn store_one(
     at: usize,
     write: bool,
 ) -> CountResult
+    requires { ⌜ k < length (registersOf float) ⌝ }
     requires { ⌜ Ready write (storeOne (lent (now tables) (now offsets)) float k p) at (length (now out)) ⌝ }
     ensures { λ r. ⌜ Makes write (storeOne (lent (now (tables .entry)) (now (offsets .entry))) float k p) at (now (out .entry)) (now (out .exit)) r ⌝ }
 {
@@ -255,7 +219,7 @@ fn look_copied(tables: &[u8], offsets: &[u64], p: VarId) -> SlotResult
 
 // It is copied from RBP plus 16 plus 8j, through RAX, into its slot.
 fn put_copy(out: &mut [u8], at: usize, j: u64, t: Slot)
-    requires { ⌜ j ≤ 256 ⌝ }
+    requires { ⌜ j ≤ mostParameters ⌝ }
     requires { ⌜ at + 128 ≤ length (now out) ⌝ }
     ensures { λ _. ⌜ now (out .exit) ≡ write (now (out .entry)) at (listBytes (copiedOf j t)) ⌝ }
 {
@@ -278,7 +242,7 @@ fn copy_one(
     at: usize,
     write: bool,
 ) -> CountResult
-    requires { ⌜ j ≤ 256 ⌝ }
+    requires { ⌜ j ≤ mostParameters ⌝ }
     requires { ⌜ Ready write (copyOne (lent (now tables) (now offsets)) j p) at (length (now out)) ⌝ }
     ensures { λ r. ⌜ Makes write (copyOne (lent (now (tables .entry)) (now (offsets .entry))) j p) at (now (out .entry)) (now (out .exit)) r ⌝ }
 {
@@ -304,7 +268,7 @@ fn copy_param(
     at: usize,
     write: bool,
 ) -> CountResult
-    requires { ⌜ taken .stack ≤ 256 ⌝ }
+    requires { ⌜ taken .stack ≤ mostParameters ⌝ }
     requires { ⌜ Ready write (ifBeyond float taken (copyOne (lent (now tables) (now offsets)) (taken .stack) p)) at (length (now out)) ⌝ }
     ensures { λ r. ⌜ Makes write (ifBeyond float taken (copyOne (lent (now (tables .entry)) (now (offsets .entry))) (taken .stack) p)) at (now (out .entry)) (now (out .exit)) r ⌝ }
 {
@@ -326,7 +290,7 @@ fn copy_params(
     write: bool,
 ) -> CountResult
     requires { ⌜ from + 3 * n ≤ cells (now sheet) ⌝ }
-    requires { ⌜ n ≤ 256 ⌝ }
+    requires { ⌜ n ≤ mostParameters ⌝ }
     requires { ⌜ at ≤ 2048 ⌝ }
     requires { ⌜ Ready write (copyParams (lent (now tables) (now offsets)) 0 (excess isFloatParam 0 0 (varsAt (now sheet) n from))) at (length (now out)) ⌝ }
     ensures { λ r. ⌜ Makes write (copyParams (lent (now (tables .entry)) (now (offsets .entry))) 0 (excess isFloatParam 0 0 (varsAt (now (sheet .entry)) n from))) at (now (out .entry)) (now (out .exit)) r ⌝ }
@@ -413,7 +377,7 @@ pub fn func_prologue(
     write: bool,
 ) -> CountResult
     requires { ⌜ from + 3 * n ≤ cells (now sheet) ⌝ }
-    requires { ⌜ n ≤ 256 ⌝ }
+    requires { ⌜ n ≤ mostParameters ⌝ }
     requires { ⌜ Ready write (funcPrologue (lent (now tables) (now offsets)) bytes (varsAt (now sheet) n from)) 0 (length (now out)) ⌝ }
     ensures { λ r. ⌜ Makes write (funcPrologue (lent (now (tables .entry)) (now (offsets .entry))) bytes (varsAt (now (sheet .entry)) n from)) 0 (now (out .entry)) (now (out .exit)) r ⌝ }
 {

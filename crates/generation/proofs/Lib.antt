@@ -1,3 +1,3 @@
-pub mod Heads
 pub mod Listing
 pub mod Lowering
+pub mod Opening

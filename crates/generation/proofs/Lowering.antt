@@ -9,10 +9,12 @@ use lib.ListN.{length, take, drop}
 use lib.Seq.{length-take-le}
 use Rattle.cells.specs.Cells.{cellAt, write}
 use Rattle.cells.specs.declared.Cursor.{Cursor}
+use Rattle.cells.specs.Refusals.{tornSheet, pageFull}
 use Rattle.layout.specs.declared.Checked.{Checked}
 use Rattle.layout.specs.declared.Limited.{Limited}
-use Rattle.layout.proofs.Passed.{apart}
-use Rattle.layout.specs.Layout.{accepts, bindLimited, bindChecked, tablesCheck, sheetCheck, instrsCheck, endCheck}
+use Rattle.layout.specs.Limits.{mostVariables, mostCount}
+use Rattle.layout.specs.Layout.{bindLimited, bindChecked, tablesCheck, headCheck, sheetCheck, instrsCheck, endCheck}
+use Rattle.layout.proofs.Laws.{head-total}
 use Rattle.ir.specs.declared.«Type».{«Type» as IrType}
 use Rattle.ir.specs.declared.types.Number.{Number}
 use Rattle.ir.specs.Types.{Result, ok, lastOffset}
@@ -32,19 +34,15 @@ use Rattle.machine.proofs.Demand3.{demand3}
 use Rattle.utils.specs.Answers.{lent, counted}
 use Rattle.utils.specs.declared.CountResult.{CountResult}
 use Rattle.utils.specs.Makes.{Makes, Ready}
-use Rattle.frame.specs.declared.Typed.{Typed}
 use Rattle.frame.specs.Sizes.{totalOf, sizesAt}
 use Rattle.generation.specs.declared.Answer.{Answer}
 use Rattle.generation.specs.declared.pass.Counted.{Counted}
 use Rattle.generation.specs.Answers.{answerSays, countedOutcome}
-use Rattle.body.specs.Head.{headCheck}
-use Rattle.generation.specs.Head.{headed, Lies}
 use Rattle.body.specs.declared.Passed.{Passed}
 use Rattle.body.specs.declared.Surveyed.{Surveyed}
 use Rattle.body.specs.Body.{bodyOf, withoutPlace, passedOf, surveyOf}
 use Rattle.generation.specs.Pass.{listOf}
 use Rattle.generation.specs.Survey.{Opens, LendsIf, countedList, rounded, framed, sizedThen, countedSays}
-use Rattle.body.proofs.Heads.{sheet-head, head-right, head-total}
 use Rattle.body.proofs.Running.{survey-laid, survey-wrong}
 use Rattle.generation.proofs.Listing.{prologue-open, list-is, list-counted}
 
@@ -69,7 +67,7 @@ unsized s {n} = go (haveWidths (varsOf s))
     go false e = (refl, let z = e in cc)
 
 -- the total is small
-pub total-few : (s : List ℕ) {t : ℕ} {c : Cursor} → Number.Is t ≡ sizesAt s (cellAt s 0) 6 → headCheck s ≡ Limited.Word (cellAt s 5) c → t ≤ 1048576
+pub total-few : (s : List ℕ) {t : ℕ} {c : Cursor} → Number.Is t ≡ sizesAt s (cellAt s 0) 6 → headCheck s ≡ Limited.Word (cellAt s 5) c → t ≤ mostCount
 total-few s e h = omega (arith, sized s e .1, head-total s h)
 
 -- ---- from the survey to the whole
@@ -86,26 +84,15 @@ module _ (tables s : List ℕ) where
   not-generated e = let p = unsized s e in rw (p .0, p .1) refl
 
   -- the layout of the sheet is its head's, then that of its instructions
-  rest-checked : {c : Cursor} → headCheck s ≡ Limited.Word (cellAt s 5) c → sheetCheck s ≡ bindChecked (instrsCheck s (cellAt s 5) c) (λ end. endCheck 2 s end)
-  rest-checked h = sheet-head s ∙ ap (λ (x : Limited). bindLimited x (λ instrs d. bindChecked (instrsCheck s instrs d) (λ end. endCheck 2 s end))) h
-
-  pub tables-wrong : {n k : ℕ} → tablesCheck tables ≡ Checked.Refused n k → compiled tables s ≡ refused n k
-  unfolding compiled
-  tables-wrong e = rw e refl
+  rest-checked : {c : Cursor} → headCheck s ≡ Limited.Word (cellAt s 5) c →
+      sheetCheck s ≡ bindChecked Checked.Refused (instrsCheck s (cellAt s 5) c) (λ end. endCheck tornSheet s end)
+  unfolding sheetCheck
+  rest-checked h = rw h refl
 
   -- behind tables that are right
-  sheet-next : accepts (tablesCheck tables) ≡ true → compiled tables s ≡ checked (sheetCheck s) (λ u. generate (tablesOf tables) (functionOf s))
+  sheet-next : {c : Cursor} → tablesCheck tables ≡ Checked.Behind c → compiled tables s ≡ checked (sheetCheck s) (λ u. generate (tablesOf tables) (functionOf s))
   unfolding compiled
-  sheet-next = go (tablesCheck tables)
-    where
-      go : (x : Checked) → accepts x ≡ true → checked x (λ v. checked (sheetCheck s) (λ u. generate (tablesOf tables) (functionOf s))) ≡ checked (sheetCheck s) (λ u. generate (tablesOf tables) (functionOf s))
-      go (Checked.Behind c) e = refl
-      go (Checked.Refused n k) e = apart (sym e)
-
-  pub head-wrong : accepts (tablesCheck tables) ≡ true → {n k : ℕ} → headCheck s ≡ Limited.Refused n k → compiled tables s ≡ refused n k
-  head-wrong e {n} {k} h =
-      let w : sheetCheck s ≡ Checked.Refused n k = sheet-head s ∙ ap (λ (x : Limited). bindLimited x (λ instrs d. bindChecked (instrsCheck s instrs d) (λ end. endCheck 2 s end))) h in
-      sheet-next e ∙ ap (λ (x : Checked). checked x (λ u. generate (tablesOf tables) (functionOf s))) w
+  sheet-next e = rw e refl
 
   abbrev Says : Counted → List ℕ → Type 0
   Says r offsets = (countedSays r ≡ countedOutcome (compiled tables s)) × LendsIf r tables s offsets
@@ -140,8 +127,8 @@ module _ (tables s : List ℕ) where
 
     -- The survey of its instructions says one of three things.
     module _ {r : Surveyed} (e : r ≡ surveyOf (instrsCheck s (cellAt s 5) c) (passedOf (bodyOf tables offsets s))) where
-      checked-next : {x : Checked} → instrsCheck s (cellAt s 5) c ≡ x → sheetCheck s ≡ bindChecked x (λ end. endCheck 2 s end)
-      checked-next f = rest-checked (o .head) ∙ ap (λ (x : Checked). bindChecked x (λ end. endCheck 2 s end)) f
+      checked-next : {x : Checked} → instrsCheck s (cellAt s 5) c ≡ x → sheetCheck s ≡ bindChecked Checked.Refused x (λ end. endCheck tornSheet s end)
+      checked-next f = rest-checked (o .head) ∙ ap (λ (x : Checked). bindChecked Checked.Refused x (λ end. endCheck tornSheet s end)) f
 
       -- A cell in an instruction is wrong.
       pub instrs-say : {n k : ℕ} → r ≡ Surveyed.Wrong n k → Says (Counted.Refused n k) offsets
@@ -152,36 +139,15 @@ module _ (tables s : List ℕ) where
         laid = survey-laid (instrsCheck s (cellAt s 5) c) (passedOf (bodyOf tables offsets s)) (sym f ∙ e)
 
         -- Something is left behind the last one.
-        pub end-says : {x : Checked} {n k : ℕ} → x ≡ endCheck 2 s d → x ≡ Checked.Refused n k → Says (Counted.Refused n k) offsets
+        pub end-says : {x : Checked} {n k : ℕ} → x ≡ endCheck tornSheet s d → x ≡ Checked.Refused n k → Says (Counted.Refused n k) offsets
         end-says g h = (ap countedOutcome (sym (laid-next (checked-next (laid .0) ∙ sym g ∙ h))), tt)
 
         -- The layout is right.
-        pub survey-says : {x : Checked} {w : Cursor} {q : Counted} → x ≡ endCheck 2 s d → x ≡ Checked.Behind w → q ≡ sizedThen total (λ bytes. countedList (prologue bytes) p) → Says q offsets
+        pub survey-says : {x : Checked} {w : Cursor} {q : Counted} → x ≡ endCheck tornSheet s d → x ≡ Checked.Behind w → q ≡ sizedThen total (λ bytes. countedList (prologue bytes) p) → Says q offsets
         survey-says g h k = rw (k, laid .1) (sized-says (checked-next (laid .0) ∙ sym g ∙ h) total (o .sizes))
 
--- ---- the head that is read
-
-headed-sized : (x : Limited) (t : Number) {total : Number} {c : Cursor} → Typed.Sized total c ≡ headed x t → (n : ℕ) × (x ≡ Limited.Word n c) × (total ≡ t)
-headed-sized (Limited.Word n d) t e = (n, let z = e in cc, let z = e in cc)
-headed-sized (Limited.Refused n k) t e = absurd (let z : _≡_ {A = ℕ} 0 1 = cc in omega arith)
-
-pub headed-wrong : (x : Limited) (t : Number) {n k : ℕ} → Typed.Wrong n k ≡ headed x t → x ≡ Limited.Refused n k
-headed-wrong (Limited.Word n d) t e = absurd (let z : _≡_ {A = ℕ} 0 1 = cc in omega arith)
-headed-wrong (Limited.Refused m j) t e = let z = e in cc
-
-pub opens : (tables s offsets : List ℕ) {total : Number} {c : Cursor} → accepts (tablesCheck tables) ≡ true → Typed.Sized total c ≡ headed (headCheck s) (sizesAt s (cellAt s 0) 6) →
-    Lies (headCheck s) s (cellAt s 0) 6 offsets → Opens tables s (take (cellAt s 0) offsets) total c
-opens tables s offsets {total} {c} e f l =
-    let p = headed-sized (headCheck s) (sizesAt s (cellAt s 0) 6) f in
-    record {
-      first = e;
-      head = p .1 ∙ ap (λ (n : ℕ). Limited.Word n c) (head-right s (p .1) .1);
-      sizes = p .2;
-      slots = rw (p .1) at l;
-    }
-
 -- as many offsets are lent as there are variables
-pub lent-long : (s offsets : List ℕ) {n : ℕ} → cellAt s 0 ≤ 256 → length offsets ≡ 256 → n ≡ cellAt s 0 → n ≡ length (take n offsets)
+pub lent-long : (s offsets : List ℕ) {n : ℕ} → cellAt s 0 ≤ mostVariables → length offsets ≡ 256 → n ≡ cellAt s 0 → n ≡ length (take n offsets)
 lent-long s offsets {n} h l e = sym (length-take-le n offsets (omega arith))
 
 -- ---- page full
@@ -195,12 +161,12 @@ paged-refused (accepted is) old e = absurd (outcomes.never e)
 paged-refused (refused m k) old e = (e, refl)
 
 pub paged-full : (q : Outcome (List Instruction)) (old : List ℕ) {n : ℕ} → accepted n ≡ countedOutcome q → length old / 64 < n →
-    Left (refused 9 n) old old (q >>= page (length old))
+    Left (refused pageFull n) old old (q >>= page (length old))
 unfolding recordsAfter
 paged-full (accepted is) old {n} e h =
     let l : n ≡ length is = let z = e in cc in
     let k : length old < 64 * length is = omega arith in
-    rw (lt-ltb (length old) (64 * length is) k) (ap (λ (m : ℕ). refused 9 m) l, refl)
+    rw (lt-ltb (length old) (64 * length is) k) (ap (λ (m : ℕ). refused pageFull m) l, refl)
 paged-full (refused m k) old e h = absurd (outcomes.never (sym e))
 
 pub paged-made : (q : Outcome (List Instruction)) (old new : List ℕ) {n : ℕ} → Makes true (withoutPlace q) 0 old new (CountResult.Records n) → n ≤ length old / 64 →

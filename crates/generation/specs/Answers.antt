@@ -1,10 +1,10 @@
--- Believed: the contracts of `count` and `generate` are said with it. A public answer says a number of records, or a refusal with its place (01, "The
--- turned-away slip").
+-- Believed: the contracts of `count` and `generate` are said with it. A public answer says a number of records, or a refusal with its place
+-- (docs/FORMAT.md, "Refusals").
 use Prim.Native.Nat.{ℕ}
 use mathlib.Core.List.{List}
 use lib.ListN.{length}
 use Rattle.x86.specs.declared.enums.Instruction.{Instruction}
-use Rattle.codegen.specs.Generation.{Outcome, accepted, refused}
+use Rattle.cells.specs.Outcomes.{Outcome, accepted, refused, amount}
 use Rattle.generation.specs.declared.Answer.{Answer}
 
 abbrev pub answerSays : Answer → Outcome ℕ
@@ -13,5 +13,4 @@ answerSays (Answer.Refused n place) = refused n place
 
 -- This is the number of records of a list.
 abbrev pub countedOutcome : Outcome (List Instruction) → Outcome ℕ
-countedOutcome (accepted is) = accepted (length is)
-countedOutcome (refused n place) = refused n place
+countedOutcome o = amount length o

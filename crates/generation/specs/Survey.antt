@@ -3,25 +3,37 @@
 use Prim.Native.Nat.{ℕ, _+_, _*_, _/_}
 use mathlib.Core.Path.{_≡_}
 use mathlib.Core.List.{List}
-use mathlib.Core.Bool.{true}
-use lib.ListN.{length, take}
+use lib.ListN.{length}
 use Rattle.cells.specs.Cells.{cellAt}
 use Rattle.ir.specs.declared.types.Number.{Number}
 use Rattle.ir.specs.Types.{Result}
 use Rattle.ir.specs.Function.{typesAt}
 use Rattle.cells.specs.declared.Cursor.{Cursor}
 use Rattle.layout.specs.declared.Limited.{Limited}
-use Rattle.layout.specs.Layout.{accepts, tablesCheck, Laid}
+use Rattle.layout.specs.declared.Checked.{Checked}
+use Rattle.layout.specs.Layout.{bindChecked, bindLimited, tablesCheck, headCheck, Laid}
 use Rattle.x86.specs.declared.enums.Instruction.{Instruction}
 use Rattle.codegen.specs.Frame.{offsetsFrom}
 use Rattle.codegen.specs.Generation.{Outcome, accepted, refused, _>>=_, at, compiled}
 use Rattle.utils.specs.Answers.{counted}
-use Rattle.frame.specs.Sizes.{sizesAt}
+use Rattle.frame.specs.Sizes.{sizesAt, offsetsAfter}
 use Rattle.body.specs.declared.Passed.{Passed}
 use Rattle.generation.specs.declared.pass.Opened.{Opened}
 use Rattle.generation.specs.declared.pass.Counted.{Counted}
-use Rattle.body.specs.Head.{headCheck}
 use Rattle.generation.specs.Pass.{ending, listOf}
+
+-- ---- the sheet is opened
+
+-- The tables are checked, then the sheet's head. The last offset of the variables and the cursor of the first instruction come of it.
+unfoldable pub opening : List ℕ → List ℕ → Opened
+opening tables s =
+    bindChecked Opened.Refused (tablesCheck tables) (λ end.
+    bindLimited Opened.Refused (headCheck s) (λ instrs from. Opened.Sheet (sizesAt s (cellAt s 0) 6) from))
+
+-- The numbers afterwards are the offsets of the variables and the old numbers behind them, or the old numbers.
+unfoldable pub offsetsOpened : List ℕ → List ℕ → List ℕ → List ℕ
+offsetsOpened tables s old =
+    bindChecked (λ n k. old) (tablesCheck tables) (λ end. bindLimited (λ n k. old) (headCheck s) (λ instrs from. offsetsAfter s (cellAt s 0) 6 old))
 
 -- ---- the list
 
@@ -45,16 +57,13 @@ sizedThen (Number.Refused n) rest = Counted.Refused n 0
 
 -- ---- the whole
 
--- The tables are right, and so is the sheet before its instructions. The offsets and the total are those of its variables.
+-- The tables are right, and so is the sheet's head. The offsets and the total are those of its variables.
 pub record Opens (tables s offsets : List ℕ) (total : Number) (from : Cursor) : Type 0 where
-  pub first : accepts (tablesCheck tables) ≡ true
+  pub end : Cursor
+  pub first : tablesCheck tables ≡ Checked.Behind end
   pub head : headCheck s ≡ Limited.Word (cellAt s 5) from
   pub sizes : total ≡ sizesAt s (cellAt s 0) 6
   pub slots : offsets ≡ offsetsFrom 0 (typesAt s (cellAt s 0) 6)
-
-abbrev pub OpensIf : Opened → List ℕ → List ℕ → List ℕ → Type 0
-OpensIf (Opened.Sheet total from) tables s offsets = Opens tables s (take (cellAt s 0) offsets) total from
-OpensIf (Opened.Refused n place) tables s offsets = compiled tables s ≡ refused n place
 
 abbrev pub countedSays : Counted → Outcome ℕ
 countedSays (Counted.Frame bytes n) = accepted n

@@ -1,6 +1,6 @@
 // This is Krc's codegen/generation.rs. It gives the list of a function's records, or the first refusal with its place.
-mod head;
 mod pass;
+pub mod plain_test;
 
 use crate::pass::Counted;
 use crate::pass::Opened;
@@ -9,6 +9,7 @@ use crate::pass::survey;
 use crate::pass::write_list;
 use cells::Cursor;
 use cells::cell_at;
+use cells::refusals::PAGE_FULL;
 use ir::types::Number;
 ghost use mathlib.Core.Path.{_≡_};
 ghost use Prim.Native.Nat.{ℕ};
@@ -59,7 +60,7 @@ fn lower(
     match survey(tables, offsets, sheet, total, from) {
         Counted::Frame(bytes, needed) => {
             if ((out.len() / 64) as u64) < needed {
-                return Answer::Refused(9, needed);
+                return Answer::Refused(PAGE_FULL, needed);
             }
             write_list(tables, offsets, sheet, bytes, needed, out);
             Answer::Accepted(needed)

@@ -1,17 +1,20 @@
 // There are two passes over a sheet. The first surveys it, and the second writes its list.
-use crate::head::head_check;
 use body::Passed;
 use body::Surveyed;
 use body::survey_body;
 use body::write_body;
 use cells::Cursor;
 use cells::cell_at;
-use frame::Typed;
+use cells::refusals::TORN_SHEET;
 use frame::func_prologue;
+use frame::var_offsets;
 use instructions::func_epilogue;
 use ir::types::Number;
+use ir::types::rounded_to_16;
 use layout::Checked;
+use layout::Limited;
 use layout::parts::end_check;
+use layout::sheet::head_check;
 use layout::tables::tables_check;
 use utils::CountResult;
 ghost use mathlib.Core.Path.{_≡_};
@@ -22,18 +25,17 @@ ghost use Rattle.cells.specs.Cells.{cellAt};
 ghost use Rattle.ir.specs.Types.{ok};
 ghost use Rattle.ir.specs.Function.{varsAt, paramsFrom};
 ghost use Rattle.layout.specs.declared.Limited.{Limited};
-ghost use Rattle.layout.specs.Layout.{Laid};
+ghost use Rattle.layout.specs.Layout.{Laid, headCheck};
 ghost use Rattle.codegen.specs.Frame.{funcPrologue};
 ghost use Rattle.codegen.specs.Generation.{compiled};
 ghost use Rattle.codegen.specs.Bounds.{mostInBody};
 ghost use Rattle.utils.specs.Answers.{lent, counted};
 ghost use Rattle.utils.specs.Makes.{Makes, Ready};
 ghost use Rattle.frame.specs.Sizes.{sizesAt};
-ghost use Rattle.body.specs.Head.{headCheck};
 ghost use Rattle.body.specs.Body.{madeBy, withoutPlace};
 ghost use Rattle.generation.specs.Answers.{countedOutcome};
 ghost use Rattle.generation.specs.Pass.{listOf, ending};
-ghost use Rattle.generation.specs.Survey.{Opens, OpensIf, LendsIf, countedList, sizedThen, countedSays};
+ghost use Rattle.generation.specs.Survey.{opening, offsetsOpened, Opens, LendsIf, countedList, sizedThen, countedSays};
 
 // It has the last offset of the variables and the cursor of the first instruction, or a refusal with its place.
 pub enum Opened {
@@ -70,7 +72,7 @@ fn count_list(
     ensures { λ r. ⌜ r ≡ sizedThen total (λ bytes. countedList (funcPrologue (lent (now (tables .entry)) (now (offsets .entry))) bytes (varsAt (now (sheet .entry)) (cellAt (now (sheet .entry)) 1) (paramsFrom (now (sheet .entry))))) body) ⌝ }
 {
     let bytes = match total {
-        Number::Is(total) => (total + 15) / 16 * 16,
+        Number::Is(total) => rounded_to_16(total),
         Number::Refused(number) => return Counted::Refused(number, 0),
     };
     let mut none = [0u8; 1];
@@ -94,18 +96,21 @@ fn count_list(
     }
 }
 
-// It checks the layout of the tables and of the sheet before its instructions, and computes the offsets of the variables.
+// It checks the layout of the tables and of the sheet's head, and then has the offsets of the variables. Where the layout is refused these stay as they were.
 pub fn open_sheet(tables: &[u8], sheet: &[u8], offsets: &mut [u64; 256]) -> Opened
     requires { ⌜ length (now offsets) ≡ 256 ⌝ }
-    ensures { λ r. ⌜ OpensIf r (now (tables .entry)) (now (sheet .entry)) (now (offsets .exit)) ⌝ }
-    ensures { λ r. ⌜ length (now (offsets .exit)) ≡ 256 ⌝ }
+    ensures { λ r. ⌜ r ≡ opening (now (tables .entry)) (now (sheet .entry)) ⌝ }
+    ensures { λ r. ⌜ now (offsets .exit) ≡ offsetsOpened (now (tables .entry)) (now (sheet .entry)) (now (offsets .entry)) ⌝ }
 {
     if let Checked::Refused(number, cell) = tables_check(tables) {
-        return Opened::Refused(number, cell as u64);
+        return Opened::Refused(number as u64, cell as u64);
     }
-    match head_check(sheet, offsets) {
-        Typed::Sized(total, from) => Opened::Sheet(total, from),
-        Typed::Wrong(number, cell) => Opened::Refused(number, cell as u64),
+    match head_check(sheet) {
+        Limited::Word(_, from) => {
+            let total = var_offsets(sheet, cell_at(sheet, 0), 6, offsets);
+            Opened::Sheet(total, from)
+        }
+        Limited::Refused(number, cell) => Opened::Refused(number as u64, cell as u64),
     }
 }
 
@@ -116,11 +121,11 @@ pub fn survey(tables: &[u8], offsets: &[u64], sheet: &[u8], total: Number, from:
     ensures { λ r. ⌜ LendsIf r (now (tables .entry)) (now (sheet .entry)) (now (offsets .entry)) ⌝ }
 {
     match survey_body(tables, offsets, sheet, from) {
-        Surveyed::Laid(body, end) => match end_check(2, sheet, end) {
+        Surveyed::Laid(body, end) => match end_check(TORN_SHEET, sheet, end) {
             Checked::Behind(_) => count_list(tables, offsets, sheet, total, from, body),
-            Checked::Refused(number, cell) => Counted::Refused(number, cell as u64),
+            Checked::Refused(number, cell) => Counted::Refused(number as u64, cell as u64),
         },
-        Surveyed::Wrong(number, cell) => Counted::Refused(number, cell as u64),
+        Surveyed::Wrong(number, cell) => Counted::Refused(number as u64, cell as u64),
     }
 }
 

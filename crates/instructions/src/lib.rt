@@ -1,5 +1,6 @@
 // This is Krc's codegen/instructions.rs, but for casts and calls: the records of one instruction are counted or written.
 use cells::cell_at;
+use cells::refusals::NO_ENTRY;
 use ir::Type;
 use ir::read::type_at;
 use ir::types::Number;
@@ -267,7 +268,7 @@ fn label_at(labels: u64, id: u64) -> Number
     if id < labels {
         Number::Is(id)
     } else {
-        Number::Refused(5)
+        Number::Refused(NO_ENTRY)
     }
 }
 

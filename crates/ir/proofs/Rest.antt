@@ -1,12 +1,15 @@
--- The numbers that no arm of a `match` on a number names.
-use Prim.Native.Nat.{ℕ, zero, suc, _*_, _/_, _%_, _^_, _≤_, _<_}
+-- The numbers that no arm of a `match` on a number names, and an offset behind another.
+use Prim.Native.Nat.{ℕ, zero, suc, _+_, _*_, _/_, _%_, _^_, _≤_, _<_}
 use mathlib.Core.Path.{_≡_, refl}
+use mathlib.Core.Bool.{false}
 use native.Mathlib.Omega.{arith}
 use borrow.Author.Tests.{ne-eqb}
 use Rattle.x86.specs.declared.enums.Size.{Size}
-use Rattle.ir.specs.Types.{elementWidth, elementSize}
+use Rattle.ir.specs.declared.«Type».{«Type» as IrType}
+use Rattle.ir.specs.Types.{elementWidth, elementSize, bytes, roundedUp, offsetBehind}
 use mathlib.Core.List.{List, [], _∷_}
 use lib.ListN.{getD}
+use lib.Dec.{eqb}
 use Rattle.ir.specs.Function.{unaryOp, varOperand, intOperand, floatOperand, boolOperand, addressOperand, dataOperand, copyAt, unaryAt, binaryAt, castAt, zeroAt, callAt, labelAt, jumpAt, jumpIfNotAt, returnAt}
 use Rattle.ir.specs.declared.Operand.{Operand}
 use Rattle.ir.specs.declared.Instr.{Instr}
@@ -109,3 +112,16 @@ comment-instr (suc (suc (suc (suc (suc (suc (suc zero))))))) s k h0 h1 h2 h3 h4 
 comment-instr (suc (suc (suc (suc (suc (suc (suc (suc zero)))))))) s k h0 h1 h2 h3 h4 h5 h6 h7 h8 h9 = absurd (h8 refl)
 comment-instr (suc (suc (suc (suc (suc (suc (suc (suc (suc zero))))))))) s k h0 h1 h2 h3 h4 h5 h6 h7 h8 h9 = absurd (h9 refl)
 comment-instr (suc (suc (suc (suc (suc (suc (suc (suc (suc (suc n)))))))))) s k h0 h1 h2 h3 h4 h5 h6 h7 h8 h9 = refl
+
+-- ---- an offset behind another
+
+pub rounded-one : (n : ℕ) → n ≡ roundedUp 1 n
+rounded-one n = omega arith
+
+pub offset-on : (end : ℕ) (t : IrType) {w : ℕ} → elementWidth (t .code) ≡ w → eqb w 0 ≡ false → roundedUp w (end + bytes t) ≡ offsetBehind end t
+unfolding offsetBehind
+offset-on end t e h = simp (e, h)
+
+pub offset-kept : (end : ℕ) (t : IrType) → elementWidth (t .code) ≡ 0 → end ≡ offsetBehind end t
+unfolding offsetBehind
+offset-kept end t e = simp e

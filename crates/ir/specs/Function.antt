@@ -1,4 +1,5 @@
--- Believed: what the cells of tables and sheet mean, where their layout is right (01, "Sheet and tables"; Krc's converter/ir/structs.rs).
+-- Believed: what the cells of tables and sheet mean, where their layout is right (docs/FORMAT.md, "Tables" to "Instructions"; Krc's
+-- converter/ir/structs.rs).
 use Prim.Native.Nat.{ℕ, zero, suc, _+_, _*_, _-_}
 use mathlib.Core.List.{List, [], _∷_}
 use mathlib.Core.Bool.{Bool, cond}

@@ -1,10 +1,11 @@
 // These are Krc's answers on types and operands.
 use crate::Operand;
 use crate::Type;
+use cells::refusals::NO_WIDTH;
 use x86::enums::Size;
 ghost use mathlib.Core.Path.{_≡_};
 ghost use Prim.Native.Nat.{_≤_};
-ghost use Rattle.ir.specs.Types.{isScalar, elementWidth, bytes, typeSize, isFloat, isUnsigned, elfSize, operandSize};
+ghost use Rattle.ir.specs.Types.{isScalar, elementWidth, bytes, roundedUp, typeSize, isFloat, isUnsigned, elfSize, operandSize, offsetBehind};
 ghost use Rattle.ir.specs.Answers.{numberSays};
 
 // It has a number, or the number of a refusal.
@@ -24,6 +25,14 @@ pub fn element_width(code: u64) -> u64
         return 0;
     }
     (WIDTHS >> (4 * code)) % 16
+}
+
+// Frames, and the areas of a call's arguments, are multiples of 16.
+pub fn rounded_to_16(n: u64) -> u64
+    requires { ⌜ n ≤ 4294967296 ⌝ }
+    ensures { λ r. ⌜ r ≡ roundedUp 16 n ⌝ }
+{
+    (n + 15) / 16 * 16
 }
 
 impl Type {
@@ -55,7 +64,7 @@ impl Type {
         ensures { λ r. ⌜ numberSays r ≡ typeSize self ⌝ }
     {
         if element_width(self.code) == 0 {
-            Number::Refused(4)
+            Number::Refused(NO_WIDTH)
         } else {
             Number::Is(self.bytes())
         }
@@ -127,5 +136,21 @@ impl Operand {
             Operand::DataAddress(_) => Size::U64,
             Operand::Null => Size::NoSize,
         }
+    }
+}
+
+// The offset of a variable behind one of offset `end` is a multiple of its element's width. A division by a constant is a shift.
+pub fn offset_behind(end: u64, ty: Type) -> u64
+    requires { ⌜ end ≤ 1048576 ⌝ }
+    ensures { λ r. ⌜ r ≡ offsetBehind end ty ⌝ }
+{
+    let size = ty.bytes();
+    let sum = end + size;
+    let width = element_width(ty.code);
+    match width {
+        1 => sum,
+        4 => (sum + 3) / 4 * 4,
+        8 => (sum + 7) / 8 * 8,
+        _ => end,
     }
 }

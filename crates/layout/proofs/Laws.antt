@@ -7,14 +7,17 @@ use native.Mathlib.Omega.{arith}
 use native.Mathlib.Nat.{mul-suc}
 use borrow.Author.Tests.{ltb-false, eqb-false}
 use lib.ListN.{length}
-use lib.Dec.{ltb, eqb}
+use lib.Dec.{ltb, eqb, lit≤}
 use Rattle.cells.specs.Cells.{cells, cellAt, largest, readWithin, bindCell}
 use Rattle.cells.specs.declared.Cursor.{Cursor}
+use Rattle.cells.specs.Refusals.{tornSheet, oversize}
 use Rattle.ir.specs.Types.{noArray, offsetBehind, lastOffset}
 use Rattle.ir.specs.Function.{typeAt, typesAt, argumentsAt, behind, paramsFrom, bodyFrom}
 use Rattle.layout.specs.declared.Checked.{Checked}
-use Rattle.layout.specs.Layout.{bindLimited, bindChecked, endCheck, cursor, limited, countCheck, zerosCheck, fieldsCheck, typeCheck, returnCheck, varCheck, firstField, flagField, operandCheck, operandsCheck, operationMost, hasDest, hasLeft, destCheck, sideCheck, callCheck, bodyCheck, instrCheck, typesCheck, varsCheck, instrsCheck, listsCheck, restCheck, sheetCheck}
-use Rattle.layout.proofs.Passed.{place, kept, checked-passed, passed-at, cell-passed, within-passed, limited-passed, at-end}
+use Rattle.layout.specs.declared.Limited.{Limited}
+use Rattle.layout.specs.Limits.{mostVariables, mostParameters, mostLabels, mostInstructions, mostArguments, mostCount}
+use Rattle.layout.specs.Layout.{Laid, bindLimited, bindChecked, cursor, countCheck, zerosCheck, fieldsCheck, typeCheck, returnCheck, varCheck, firstField, flagField, operandCheck, operandsCheck, operationMost, hasDest, hasLeft, destCheck, sideCheck, callCheck, bodyCheck, instrCheck, typesCheck, varsCheck, instrsCheck, restHead, headCheck, sheetCheck}
+use Rattle.layout.proofs.Passed.{is-behind, is-word, place, same-word, kept, checked-passed, passed-at, word-passed, cell-passed, within-passed, limited-passed, at-end}
 
 -- ---- types, variables, operands
 
@@ -25,22 +28,22 @@ Spans s n c d = (d .at ≡ c .at + n) × (c .at + n ≤ cells s)
 count-right : (s : List ℕ) (c : Cursor) {d : Cursor} → countCheck s c ≡ Checked.Behind d → Spans s 1 c d
 unfolding countCheck
 count-right s c {d} e =
-    let p = cell-passed 2 s c _ e in
+    let p = cell-passed is-behind tornSheet s c _ e in
     (go (eqb (cellAt s (c .at)) noArray) (p .1), omega (arith, p .0))
   where
-    go : (b : Bool) → cond b (Checked.Behind (cursor (c .at + 1))) (cond (ltb largest (cellAt s (c .at))) (Checked.Refused 2 (c .at))
-        (cond (ltb 1048576 (cellAt s (c .at))) (Checked.Refused 3 (c .at)) (Checked.Behind (cursor (c .at + 1))))) ≡ Checked.Behind d →
+    go : (b : Bool) → cond b (Checked.Behind (cursor (c .at + 1))) (cond (ltb largest (cellAt s (c .at))) (Checked.Refused tornSheet (c .at))
+        (cond (ltb mostCount (cellAt s (c .at))) (Checked.Refused oversize (c .at)) (Checked.Behind (cursor (c .at + 1))))) ≡ Checked.Behind d →
         d .at ≡ c .at + 1
     go true e = place e
     go false e =
-        let l = kept (ltb largest (cellAt s (c .at))) 2 (c .at) _ e in
-        let q = kept (ltb 1048576 (cellAt s (c .at))) 3 (c .at) _ (l .1) in
+        let l = kept is-behind (ltb largest (cellAt s (c .at))) tornSheet (c .at) _ e in
+        let q = kept is-behind (ltb mostCount (cellAt s (c .at))) oversize (c .at) _ (l .1) in
         place (q .1)
 
 pub type-right : (s : List ℕ) (c : Cursor) {d : Cursor} → typeCheck s c ≡ Checked.Behind d → Spans s 2 c d
 unfolding typeCheck
 type-right s c e =
-    let p = within-passed 2 s c 1 12 _ e in
+    let p = within-passed is-behind tornSheet s c 1 12 _ e in
     let q = count-right s (cursor (c .at + 1)) (p .1) in
     (omega arith, omega arith)
 
@@ -48,14 +51,14 @@ type-right s c e =
 pub return-right : (s : List ℕ) (c : Cursor) {d : Cursor} → returnCheck s c ≡ Checked.Behind d → Spans s 2 c d
 unfolding returnCheck
 return-right s c {d} e =
-    let p = within-passed 2 s c 0 12 _ e in
+    let p = within-passed is-behind tornSheet s c 0 12 _ e in
     go (eqb (cellAt s (c .at)) 0) (p .1)
   where
     go : (b : Bool) →
-        cond b (bindCell (Checked.Refused 2) (readWithin s (cursor (c .at + 1)) noArray noArray) (λ count c2. Checked.Behind c2))
+        cond b (bindCell (Checked.Refused tornSheet) (readWithin s (cursor (c .at + 1)) noArray noArray) (λ count c2. Checked.Behind c2))
         (countCheck s (cursor (c .at + 1))) ≡ Checked.Behind d → Spans s 2 c d
     go true e =
-        let q = within-passed 2 s (cursor (c .at + 1)) noArray noArray _ e in
+        let q = within-passed is-behind tornSheet s (cursor (c .at + 1)) noArray noArray _ e in
         let r = place (q .1) in
         (omega arith, omega (arith, q .0 .there))
     go false e =
@@ -65,23 +68,23 @@ return-right s c {d} e =
 pub var-right : (s : List ℕ) (c : Cursor) {d : Cursor} → varCheck s c ≡ Checked.Behind d → Spans s 3 c d
 unfolding varCheck
 var-right s c e =
-    let p = within-passed 2 s c 0 largest _ e in
+    let p = within-passed is-behind tornSheet s c 0 largest _ e in
     let q = type-right s (cursor (c .at + 1)) (p .1) in
     (omega arith, omega arith)
 
 fields-right : (s : List ℕ) (c : Cursor) (x y z : ℕ) {d : Cursor} → fieldsCheck s c x y z ≡ Checked.Behind d → Spans s 3 c d
 unfolding fieldsCheck
 fields-right s c x y z e =
-    let p = within-passed 2 s c 0 x _ e in
-    let q = within-passed 2 s (cursor (c .at + 1)) 0 y _ (p .1) in
-    let r = within-passed 2 s (cursor (c .at + 1 + 1)) 0 z _ (q .1) in
+    let p = within-passed is-behind tornSheet s c 0 x _ e in
+    let q = within-passed is-behind tornSheet s (cursor (c .at + 1)) 0 y _ (p .1) in
+    let r = within-passed is-behind tornSheet s (cursor (c .at + 1 + 1)) 0 z _ (q .1) in
     let b = place (r .1) in
     (omega arith, omega (arith, r .0 .there))
 
 -- a variable, or three numbers behind the kind
 pub operand-right : (s : List ℕ) (c : Cursor) {d : Cursor} → operandCheck s c ≡ Checked.Behind d → Spans s 4 c d
 unfolding operandCheck
-operand-right s c {d} e = go (eqb n 0 || eqb n 4) (within-passed 2 s c 0 6 _ e .1)
+operand-right s c {d} e = go (eqb n 0 || eqb n 4) (within-passed is-behind tornSheet s c 0 6 _ e .1)
   where
     n : ℕ
     n = cellAt s (c .at)
@@ -114,18 +117,18 @@ module _ (s : List ℕ) (step : Cursor → Checked) (w : ℕ) where
         let p = wide c m e in
         record { ends = omega (arith, mul-suc w n, r .ends); within = λ h. r .within (omega arith) }
 
-    runs : (rep : ℕ → Cursor → Checked) → ((c : Cursor) → rep 0 c ≡ Checked.Behind c) → ((n : ℕ) (c : Cursor) → rep (suc n) c ≡ bindChecked (step c) (rep n)) →
+    runs : (rep : ℕ → Cursor → Checked) → ((c : Cursor) → rep 0 c ≡ Checked.Behind c) → ((n : ℕ) (c : Cursor) → rep (suc n) c ≡ bindChecked Checked.Refused (step c) (rep n)) →
         (n : ℕ) (c : Cursor) {d : Cursor} → rep n c ≡ Checked.Behind d → Runs n c d
     runs rep none more zero c e = runs-none (sym (none c) ∙ e)
     runs rep none more (suc n) c e =
-        let p = checked-passed (step c) (rep n) (sym (more n c) ∙ e) in
+        let p = checked-passed is-behind (step c) (rep n) (sym (more n c) ∙ e) in
         runs-more n (p .1) (runs rep none more n (p .0) (p .2))
 
 zeros-right : (s : List ℕ) (n : ℕ) (c : Cursor) {d : Cursor} → zerosCheck s n c ≡ Checked.Behind d → (d .at ≡ c .at + n) × (c .at ≤ cells s → d .at ≤ cells s)
 unfolding zerosCheck
 zeros-right s zero c e = let l = place e in (omega arith, λ h. omega arith)
 zeros-right s (suc n) c e =
-    let p = within-passed 2 s c 0 0 _ e in
+    let p = within-passed is-behind tornSheet s c 0 0 _ e in
     let q = zeros-right s n (cursor (c .at + 1)) (p .1) in
     (omega arith, λ h. q .1 (omega arith))
 
@@ -140,13 +143,13 @@ vars-run s =
     runs s (varCheck s) 3 (λ c d e. var-right s c e) (varsCheck s) (λ c. refl) (λ n c. refl)
 
 -- one type, whose offset the limit allows, and the types behind it
-types-more : (s : List ℕ) (n end : ℕ) (c : Cursor) {d : Cursor} → typesCheck s (suc n) end c ≡ Checked.Behind d →
-    (m : Cursor) × (typeCheck s c ≡ Checked.Behind m) × (offsetBehind end (typeAt s (c .at)) ≤ 1048576) × (typesCheck s n (offsetBehind end
+pub types-more : (s : List ℕ) (n end : ℕ) (c : Cursor) {d : Cursor} → typesCheck s (suc n) end c ≡ Checked.Behind d →
+    (m : Cursor) × (typeCheck s c ≡ Checked.Behind m) × (offsetBehind end (typeAt s (c .at)) ≤ mostCount) × (typesCheck s n (offsetBehind end
     (typeAt s (c .at))) m ≡ Checked.Behind d)
 unfolding typesCheck
 types-more s n end c e =
-    let p = checked-passed (typeCheck s c) _ e in
-    let q = kept _ 3 (c .at + 1) _ (p .2) in
+    let p = checked-passed is-behind (typeCheck s c) _ e in
+    let q = kept is-behind _ oversize (c .at + 1) _ (p .2) in
     (p .0, p .1, ltb-false _ _ (q .0), q .1)
 
 pub types-run : (s : List ℕ) (n end : ℕ) (c : Cursor) {d : Cursor} → typesCheck s n end c ≡ Checked.Behind d → Runs s (typeCheck s) 2 n c d
@@ -156,8 +159,8 @@ types-run s (suc n) end c e =
     let p = types-more s n end c e in
     runs-more s (typeCheck s) 2 (λ c d e. type-right s c e) n (p .1) (types-run s n (offsetBehind end (typeAt s (c .at))) (p .0) (p .3))
 
-pub types-total : (s : List ℕ) (n end : ℕ) (c : Cursor) {d : Cursor} → typesCheck s n end c ≡ Checked.Behind d → end ≤ 1048576 →
-    lastOffset end (typesAt s n (c .at)) ≤ 1048576
+pub types-total : (s : List ℕ) (n end : ℕ) (c : Cursor) {d : Cursor} → typesCheck s n end c ≡ Checked.Behind d → end ≤ mostCount →
+    lastOffset end (typesAt s n (c .at)) ≤ mostCount
 unfolding lastOffset typesAt
 types-total s zero end c e h = h
 types-total s (suc n) end c e h =
@@ -177,25 +180,27 @@ unfolding sideCheck
 side-right s true c e = let p = operand-right s c e in (p .0, λ h. omega arith)
 side-right s false c e = zeros-right s 4 c e
 
--- a call's own cells and its arguments
-call-right : (s : List ℕ) (k : ℕ) {d : Cursor} → callCheck s (cursor (k + 5)) ≡ Checked.Behind d →
-    (k + 13 ≤ cells s) × (cellAt s (k + 6) ≤ 64) × (operandsCheck s (cellAt s (k + 6)) (cursor (k + 13)) ≡ Checked.Behind d)
+-- a call's own cells
+call-right : (s : List ℕ) (k : ℕ) {n : ℕ} {d : Cursor} → callCheck s (cursor (k + 5)) ≡ Limited.Word n d →
+    (k + 13 ≤ cells s) × (cellAt s (k + 6) ≤ mostArguments) × (n ≡ cellAt s (k + 6)) × (d .at ≡ k + 13)
 unfolding callCheck
 call-right s k e =
-    let p = within-passed 2 s (cursor (k + 5)) 0 largest _ e in
+    let p = within-passed is-word tornSheet s (cursor (k + 5)) 0 largest _ e in
     let six : k + 5 + 1 ≡ k + 6 = omega arith in
-    let q = limited-passed s (cursor (k + 6)) 64 _ (rw six at (p .1)) in
-    let r = passed-at (zerosCheck s 6 (cursor (k + 6 + 1))) _ (k + 13) (λ m e. let z = zeros-right s 6 (cursor (k + 6 + 1)) e in omega arith) (q .1) in
-    let z = zeros-right s 6 (cursor (k + 6 + 1)) (r .0) in
-    (z .1 (omega arith), q .0 .most, r .1)
+    let q = limited-passed is-word s (cursor (k + 6)) mostArguments _ (rw six at (p .1)) in
+    let r = checked-passed is-word (zerosCheck s 6 (cursor (k + 6 + 1))) _ (q .1) in
+    let z = zeros-right s 6 (cursor (k + 6 + 1)) (r .1) in
+    let w = same-word (r .2) in
+    (omega (arith, z .0, z .1 (omega arith)), q .0 .most, w .0, omega (arith, z .0, w .1))
 
 -- left and right of any other instruction
 sides-right : (s : List ℕ) (k : ℕ) {d : Cursor} →
-    bindChecked (sideCheck s (hasLeft (cellAt s k)) (cursor (k + 5))) (λ c1. sideCheck s (eqb (cellAt s k) 2) c1) ≡ Checked.Behind d → k + 5 ≤ cells s →
+    bindChecked Checked.Refused (sideCheck s (hasLeft (cellAt s k)) (cursor (k + 5))) (λ c1. sideCheck s (eqb (cellAt s k) 2) c1) ≡ Checked.Behind d →
+    k + 5 ≤ cells s →
     (d .at ≡ k + 13) × (k + 13 ≤ cells s)
 sides-right s k e h =
     let has = hasLeft (cellAt s k) in
-    let p = passed-at (sideCheck s has (cursor (k + 5))) _ (k + 9) (λ m e. let z = side-right s has (cursor (k + 5)) e in omega arith) e in
+    let p = passed-at is-behind (sideCheck s has (cursor (k + 5))) _ (k + 9) (λ m e. let z = side-right s has (cursor (k + 5)) e in omega arith) e in
     let a = side-right s has (cursor (k + 5)) (p .0) in
     let b = side-right s (eqb (cellAt s k) 2) (cursor (k + 9)) (p .1) in
     (omega arith, omega (arith, b .1 (a .1 h)))
@@ -205,20 +210,21 @@ pub record RightInstr (s : List ℕ) (k : ℕ) (d : Cursor) : Type 0 where
   pub there : k + 13 ≤ cells s
   pub ends : d .at ≡ behind s k
   pub within : d .at ≤ cells s
-  pub few : cellAt s k ≡ 5 → cellAt s (k + 6) ≤ 64
+  pub few : cellAt s k ≡ 5 → cellAt s (k + 6) ≤ mostArguments
 
 body-right : (s : List ℕ) (k : ℕ) {d : Cursor} → bodyCheck s (cellAt s k) (cursor (k + 5)) ≡ Checked.Behind d → k + 5 ≤ cells s → RightInstr s k d
 unfolding bodyCheck behind argumentsAt
 body-right s k {d} = go (eqb (cellAt s k) 5) refl
   where
     go : (b : Bool) → eqb (cellAt s k) 5 ≡ b →
-        cond b (callCheck s (cursor (k + 5))) (bindChecked (sideCheck s (hasLeft (cellAt s k)) (cursor (k + 5)))
-        (λ c1. sideCheck s (eqb (cellAt s k) 2) c1)) ≡ Checked.Behind d →
+        cond b (bindLimited Checked.Refused (callCheck s (cursor (k + 5))) (λ count c1. operandsCheck s count c1))
+        (bindChecked Checked.Refused (sideCheck s (hasLeft (cellAt s k)) (cursor (k + 5))) (λ c1. sideCheck s (eqb (cellAt s k) 2) c1)) ≡ Checked.Behind d →
         k + 5 ≤ cells s → RightInstr s k d
     go true p e h =
-        let q = call-right s k e in
-        let r = operands-run s (cellAt s (k + 6)) (cursor (k + 13)) (q .2) in
-        record { there = q .0; ends = rw p (r .ends); within = r .within (q .0); few = λ _. q .1 }
+        let w = word-passed is-behind (callCheck s (cursor (k + 5))) _ e in
+        let q = call-right s k (w .2) in
+        let r = operands-run s (w .0) (w .1) (w .3) in
+        record { there = q .0; ends = rw p (omega (arith, r .ends, q .2, q .3)); within = r .within (omega (arith, q .0, q .3)); few = λ _. q .1 }
     go false p e h =
         let q = sides-right s k e h in
         record { there = q .1; ends = rw p (omega arith); within = omega arith; few = λ t. absurd (eqb-false _ _ p t) }
@@ -229,10 +235,10 @@ instr-right s c e =
     let k = c .at in
     let n = cellAt s k in
     let has = hasDest n (cellAt s (k + 1)) in
-    let p = within-passed 2 s c 0 10 _ e in
-    let q = within-passed 2 s (cursor (k + 1)) 0 (operationMost n) _ (p .1) in
+    let p = within-passed is-behind tornSheet s c 0 10 _ e in
+    let q = within-passed is-behind tornSheet s (cursor (k + 1)) 0 (operationMost n) _ (p .1) in
     let two : k + 1 + 1 ≡ k + 2 = omega arith in
-    let r = passed-at (destCheck s has (cursor (k + 2))) (λ c3. bodyCheck s n c3) (k + 5)
+    let r = passed-at is-behind (destCheck s has (cursor (k + 2))) (λ c3. bodyCheck s n c3) (k + 5)
     (λ m e. let z = dest-right s has (cursor (k + 2)) e in omega arith) (rw two at (q .1)) in
     let z = dest-right s has (cursor (k + 2)) (r .0) in
     body-right s k (r .1) (z .1 (omega arith))
@@ -242,7 +248,7 @@ pub instrs-more : (s : List ℕ) (n : ℕ) (c : Cursor) {e : Cursor} → instrsC
     (instrCheck s c ≡ Checked.Behind (cursor (behind s (c .at)))) × (instrsCheck s n (cursor (behind s (c .at))) ≡ Checked.Behind e)
 unfolding instrsCheck
 instrs-more s n c h =
-    passed-at (instrCheck s c) (λ next. instrsCheck s n next) (behind s (c .at)) (λ m e. instr-right s c e .ends) h
+    passed-at is-behind (instrCheck s c) (λ next. instrsCheck s n next) (behind s (c .at)) (λ m e. instr-right s c e .ends) h
 
 pub instrs-within : (s : List ℕ) (n : ℕ) (c : Cursor) {e : Cursor} → instrsCheck s n c ≡ Checked.Behind e → c .at ≤ cells s → e .at ≤ cells s
 unfolding instrsCheck
@@ -256,55 +262,90 @@ instrs-within s (suc n) c h l =
 -- what stands before the instructions
 pub record RightHead (s : List ℕ) : Type 0 where
   pub header : 6 ≤ cells s
-  pub vars : cellAt s 0 ≤ 256
-  pub params : cellAt s 1 ≤ 256
-  pub labels : cellAt s 2 ≤ 256
-  pub instrs : cellAt s 5 ≤ 4096
+  pub vars : cellAt s 0 ≤ mostVariables
+  pub params : cellAt s 1 ≤ mostParameters
+  pub labels : cellAt s 2 ≤ mostLabels
+  pub instrs : cellAt s 5 ≤ mostInstructions
   pub types : typesCheck s (cellAt s 0) 0 (cursor 6) ≡ Checked.Behind (cursor (paramsFrom s))
   pub within : bodyFrom s ≤ cells s
 
+-- .. how many instructions there are, and where they start
+pub head-right : (s : List ℕ) {n : ℕ} {c : Cursor} → headCheck s ≡ Limited.Word n c → RightHead s × (n ≡ cellAt s 5) × (c .at ≡ bodyFrom s)
+unfolding headCheck restHead
+head-right s h =
+    let vars = limited-passed is-word s (cursor 0) mostVariables _ h in
+    let params = limited-passed is-word s (cursor 1) mostParameters _ (vars .1) in
+    let labels = limited-passed is-word s (cursor 2) mostLabels _ (params .1) in
+    let ret = passed-at is-word (returnCheck s (cursor 3)) _ 5 (λ m e. return-right s (cursor 3) e .0) (labels .1) in
+    let instrs = limited-passed is-word s (cursor 5) mostInstructions _ (ret .1) in
+    let types = passed-at is-word (typesCheck s (cellAt s 0) 0 (cursor 6)) _ (paramsFrom s)
+    (λ m e. types-run s (cellAt s 0) 0 (cursor 6) e .ends) (instrs .1) in
+    let from = cursor (paramsFrom s) in
+    let own = passed-at is-word (varsCheck s (cellAt s 1) from) _ (bodyFrom s) (λ m e. vars-run s (cellAt s 1) from e .ends) (types .1) in
+    let inside = types-run s (cellAt s 0) 0 (cursor 6) (types .0) .within (instrs .0 .there) in
+    let w = same-word (own .1) in (
+      record {
+        header = instrs .0 .there;
+        vars = vars .0 .most;
+        params = params .0 .most;
+        labels = labels .0 .most;
+        instrs = instrs .0 .most;
+        types = types .0;
+        within = vars-run s (cellAt s 1) from (own .0) .within inside;
+      },
+      w .0,
+      w .1,
+    )
+
+module _ (s : List ℕ) {n : ℕ} {c : Cursor} (h : headCheck s ≡ Limited.Word n c) where
+  pub head-header : 6 ≤ cells s
+  head-header = head-right s h .0 .header
+
+  pub head-vars : cellAt s 0 ≤ mostVariables
+  head-vars = head-right s h .0 .vars
+
+  pub head-params : cellAt s 1 ≤ mostParameters
+  head-params = head-right s h .0 .params
+
+  pub head-labels : cellAt s 2 ≤ mostLabels
+  head-labels = head-right s h .0 .labels
+
+  pub head-types : typesCheck s (cellAt s 0) 0 (cursor 6) ≡ Checked.Behind (cursor (paramsFrom s))
+  head-types = head-right s h .0 .types
+
+  pub head-within : bodyFrom s ≤ cells s
+  head-within = head-right s h .0 .within
+
+  pub head-few : cellAt s 5 ≤ mostInstructions
+  head-few = head-right s h .0 .instrs
+
+  pub head-starts : c .at ≡ bodyFrom s
+  head-starts = head-right s h .2
+
+  pub head-total : lastOffset 0 (typesAt s (cellAt s 0) 6) ≤ mostCount
+  head-total = types-total s (cellAt s 0) 0 (cursor 6) head-types (lit≤ tt)
+
 pub record Right (s : List ℕ) (e : Cursor) : Type 0 where
-  pub head : RightHead s
+  pub head : headCheck s ≡ Limited.Word (cellAt s 5) (cursor (bodyFrom s))
   pub body : instrsCheck s (cellAt s 5) (cursor (bodyFrom s)) ≡ Checked.Behind e
   pub whole : e .at * 8 ≡ length s
 
--- .. and what follows it
-pub head-passed : (s : List ℕ) (g : ℕ → Cursor → Checked) {e : Cursor} →
-    bindLimited (limited s (cursor 0) 256) (λ vars c1. bindLimited (limited s c1 256) (λ params c2. bindLimited (limited s c2 256) (λ labels c3.
-    bindChecked (returnCheck s c3) (λ c4. bindLimited (limited s c4 4096) (λ instrs c5.
-    bindChecked (typesCheck s vars 0 c5) (λ c6. bindChecked (varsCheck s params c6) (λ c7. g instrs c7))))))) ≡ Checked.Behind e →
-    RightHead s × (g (cellAt s 5) (cursor (bodyFrom s)) ≡ Checked.Behind e)
-head-passed s g h =
-    let a = limited-passed s (cursor 0) 256 _ h in
-    let b = limited-passed s (cursor 1) 256 _ (a .1) in
-    let c = limited-passed s (cursor 2) 256 _ (b .1) in
-    let r = passed-at (returnCheck s (cursor 3)) _ 5 (λ m e. return-right s (cursor 3) e .0) (c .1) in
-    let i = limited-passed s (cursor 5) 4096 _ (r .1) in
-    let t = passed-at (typesCheck s (cellAt s 0) 0 (cursor 6)) _ (paramsFrom s) (λ m e. types-run s (cellAt s 0) 0 (cursor 6) e .ends) (i .1) in
-    let p = cursor (paramsFrom s) in
-    let v = passed-at (varsCheck s (cellAt s 1) p) _ (bodyFrom s) (λ m e. vars-run s (cellAt s 1) p e .ends) (t .1) in
-    let l = types-run s (cellAt s 0) 0 (cursor 6) (t .0) .within (i .0 .there) in (
-      record {
-        header = i .0 .there;
-        vars = a .0 .most;
-        params = b .0 .most;
-        labels = c .0 .most;
-        instrs = i .0 .most;
-        types = t .0;
-        within = vars-run s (cellAt s 1) p (v .0) .within l;
-      },
-      v .1,
-    )
-
 pub sheet-right : (s : List ℕ) {e : Cursor} → sheetCheck s ≡ Checked.Behind e → Right s e
-unfolding sheetCheck restCheck listsCheck
-sheet-right s {e} h =
-    let r = head-passed s (λ instrs c. bindChecked (instrsCheck s instrs c) (λ end. endCheck 2 s end)) h in
-    let n = checked-passed (instrsCheck s (cellAt s 5) (cursor (bodyFrom s))) _ (r .1) in
-    let z = at-end 2 s (n .0) (n .2) in
-    let w = instrs-within s (cellAt s 5) (cursor (bodyFrom s)) (n .1) (r .0 .within) in
+unfolding sheetCheck
+sheet-right s h =
+    let w = word-passed is-behind (headCheck s) _ h in
+    let p = head-right s (w .2) in
+    let from : w .1 ≡ cursor (bodyFrom s) = ap cursor (p .2) in
+    let n = checked-passed is-behind (instrsCheck s (w .0) (w .1)) _ (w .3) in
+    let z = at-end tornSheet s (n .0) (n .2) in
+    let body : instrsCheck s (cellAt s 5) (cursor (bodyFrom s)) ≡ Checked.Behind (n .0) = rw (← p .1, ← from) (n .1) in
+    let l = instrs-within s (cellAt s 5) (cursor (bodyFrom s)) body (p .0 .within) in
     record {
-      head = r .0;
-      body = n .1 ∙ ap (λ (k : ℕ). Checked.Behind (cursor k)) (sym (z .0));
+      head = w .2 ∙ rw (p .1, from);
+      body = body ∙ ap (λ (k : ℕ). Checked.Behind (cursor k)) (sym (z .0));
       whole = omega arith;
     }
+
+-- the head of a sheet whose layout is right
+pub head-laid : {s : List ℕ} → Laid s → headCheck s ≡ Limited.Word (cellAt s 5) (cursor (bodyFrom s))
+head-laid {s} r = sheet-right s (r .is) .head

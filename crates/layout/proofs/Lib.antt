@@ -1,5 +1,5 @@
-pub mod Accepted
 pub mod Laws
 pub mod Passed
+pub mod Sides
 pub mod Turns
 pub mod Walk

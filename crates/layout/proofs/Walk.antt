@@ -9,8 +9,9 @@ use lib.Dec.{eqb}
 use Rattle.cells.specs.Cells.{cells, cellAt}
 use Rattle.cells.specs.declared.Cursor.{Cursor}
 use Rattle.layout.specs.declared.Checked.{Checked}
+use Rattle.layout.specs.Limits.{mostVariables, mostInstructions, mostArguments}
 use Rattle.layout.specs.Layout.{cursor, instrsCheck, sheetCheck, Laid}
-use Rattle.layout.proofs.Laws.{Right, sheet-right, types-run, instr-right, instrs-more}
+use Rattle.layout.proofs.Laws.{Right, head-header, head-vars, head-types, head-within, head-few, sheet-right, types-run, instr-right, instrs-more}
 use Rattle.ir.specs.Function.{argumentsAt, behind, paramsFrom, bodyFrom}
 
 -- ---- the sheet
@@ -23,19 +24,19 @@ module _ {s : List ℕ} (r : Laid s) where
   right = sheet-right s (r .is)
 
   pub has-header : 6 ≤ cells s
-  has-header = right .head .header
+  has-header = head-header s (right .head)
 
   pub has-types : paramsFrom s ≤ cells s
-  has-types = types-run s (cellAt s 0) 0 (cursor 6) (right .head .types) .within has-header
+  has-types = types-run s (cellAt s 0) 0 (cursor 6) (head-types s (right .head)) .within has-header
 
   pub has-params : bodyFrom s ≤ cells s
-  has-params = right .head .within
+  has-params = head-within s (right .head)
 
-  pub has-vars : cellAt s 0 ≤ 256
-  has-vars = right .head .vars
+  pub has-vars : cellAt s 0 ≤ mostVariables
+  has-vars = head-vars s (right .head)
 
-  pub has-few : cellAt s 5 ≤ 4096
-  has-few = right .head .instrs
+  pub has-few : cellAt s 5 ≤ mostInstructions
+  has-few = head-few s (right .head)
 
 -- ---- n instructions from cell k on
 
@@ -54,14 +55,14 @@ module _ {s : List ℕ} where
       (b .there, omega (arith, b .ends, b .within))
 
   -- a call has few arguments
-  pub walk-few : (n k : ℕ) → Walk s n k → 0 < n → argumentsAt s k ≤ 64
+  pub walk-few : (n k : ℕ) → Walk s n k → 0 < n → argumentsAt s k ≤ mostArguments
   unfolding argumentsAt
   walk-few zero k w h = absurd (omega arith)
   walk-few (suc n) k w h =
       let b = instr-right s (cursor k) (instrs-more s n (cursor k) (w .is) .0) in
       go (eqb (cellAt s k) 5) (λ e. b .few (eqb-true _ _ e))
     where
-      go : (t : Bool) → (t ≡ true → cellAt s (k + 6) ≤ 64) → cond t (cellAt s (k + 6)) 0 ≤ 64
+      go : (t : Bool) → (t ≡ true → cellAt s (k + 6) ≤ mostArguments) → cond t (cellAt s (k + 6)) 0 ≤ mostArguments
       go true f = f refl
       go false f = omega arith
 

@@ -1,31 +1,28 @@
 -- Believed: refusals 1 to 3 rest on it. The layout of tables and sheet: which cell is the first wrong one, in reading order
--- (01, "Sheet and tables", "Limits", "The turned-away slip").
+-- (docs/FORMAT.md, "Tables", "Sheet", "Limits", "Refusals").
 use Prim.Native.Nat.{ℕ, zero, suc, _+_, _*_, _-_, _^_}
 use mathlib.Core.Path.{_≡_}
 use mathlib.Core.List.{List}
-use mathlib.Core.Bool.{Bool, true, false, cond, _&&_, _||_}
+use mathlib.Core.Bool.{Bool, cond, _&&_, _||_}
 use lib.ListN.{length}
 use lib.Dec.{ltb, leb, eqb}
 use Rattle.cells.specs.Cells.{cellAt, largest, readCell, readWithin, bindCell}
 use Rattle.cells.specs.declared.Cursor.{Cursor}
+use Rattle.cells.specs.Refusals.{badTable, tornSheet, oversize}
 use Rattle.layout.specs.declared.Limited.{Limited}
 use Rattle.layout.specs.declared.Checked.{Checked}
+use Rattle.layout.specs.Limits.{mostStrings, mostFloats, mostVariables, mostParameters, mostLabels, mostInstructions, mostArguments, mostCount}
 use Rattle.ir.specs.Types.{noArray, offsetBehind}
 
--- ---- what follows a part that is right
+-- ---- what follows a part that is right; a refusal stands
 
-abbrev pub bindLimited : Limited → (ℕ → Cursor → Checked) → Checked
-bindLimited (Limited.Word v c) rest = rest v c
-bindLimited (Limited.Refused n k) rest = Checked.Refused n k
+abbrev pub bindLimited : {R : Type 0} → (ℕ → ℕ → R) → Limited → (ℕ → Cursor → R) → R
+bindLimited refuse (Limited.Word v c) rest = rest v c
+bindLimited refuse (Limited.Refused n k) rest = refuse n k
 
-abbrev pub bindChecked : Checked → (Cursor → Checked) → Checked
-bindChecked (Checked.Behind c) rest = rest c
-bindChecked (Checked.Refused n k) rest = Checked.Refused n k
-
--- whether a check refuses nothing; no refusal rests on it
-abbrev pub accepts : Checked → Bool
-accepts (Checked.Behind c) = true
-accepts (Checked.Refused n k) = false
+abbrev pub bindChecked : {R : Type 0} → (ℕ → ℕ → R) → Checked → (Cursor → R) → R
+bindChecked refuse (Checked.Behind c) rest = rest c
+bindChecked refuse (Checked.Refused n k) rest = refuse n k
 
 abbrev pub cursor : ℕ → Cursor
 cursor k = record { at = k }
@@ -34,59 +31,59 @@ cursor k = record { at = k }
 unfoldable pub endCheck : ℕ → List ℕ → Cursor → Checked
 endCheck n s c = cond (ltb (c .at * 8) (length s)) (Checked.Refused n (c .at)) (Checked.Behind c)
 
--- ---- tables: a string count from 0 to 256, then a cell a float, 1 short or 0 long, at most 256; refusal 1
+-- ---- tables: a string count, then a cell a float, 1 short or 0 long; refusal 1
 
 -- at most n floats from the cursor on
 unfoldable pub floatsCheck : List ℕ → ℕ → Cursor → Checked
-floatsCheck t zero c = endCheck 1 t c
+floatsCheck t zero c = endCheck badTable t c
 floatsCheck t (suc n) c =
-    cond (ltb (c .at * 8) (length t)) (bindCell (Checked.Refused 1) (readWithin t c 0 1) (λ v next. floatsCheck t n next)) (Checked.Behind c)
+    cond (ltb (c .at * 8) (length t)) (bindCell (Checked.Refused badTable) (readWithin t c 0 1) (λ v next. floatsCheck t n next)) (Checked.Behind c)
 
 unfoldable pub tablesCheck : List ℕ → Checked
-tablesCheck t = bindCell (Checked.Refused 1) (readWithin t (cursor 0) 0 256) (λ strings next. floatsCheck t 256 next)
+tablesCheck t = bindCell (Checked.Refused badTable) (readWithin t (cursor 0) 0 mostStrings) (λ strings next. floatsCheck t mostFloats next)
 
 -- ---- single cells of a sheet
 
 -- a count: negative is off the layout, above its limit oversize
 unfoldable pub limited : List ℕ → Cursor → ℕ → Limited
 limited s c most =
-    bindCell (Limited.Refused 2) (readWithin s c 0 largest) (λ v next. cond (ltb most v) (Limited.Refused 3 (c .at)) (Limited.Word v next))
+    bindCell (Limited.Refused tornSheet) (readWithin s c 0 largest) (λ v next. cond (ltb most v) (Limited.Refused oversize (c .at)) (Limited.Word v next))
 
--- the count of a type: -1 for no array, or from 0 to 1,048,576
+-- the count of a type: -1 for no array, or from 0 to its limit
 unfoldable pub countCheck : List ℕ → Cursor → Checked
 countCheck s c =
-    bindCell (Checked.Refused 2) (readCell s c) (λ count next.
+    bindCell (Checked.Refused tornSheet) (readCell s c) (λ count next.
     cond (eqb count noArray) (Checked.Behind next)
-    (cond (ltb largest count) (Checked.Refused 2 (c .at))
-    (cond (ltb 1048576 count) (Checked.Refused 3 (c .at)) (Checked.Behind next))))
+    (cond (ltb largest count) (Checked.Refused tornSheet (c .at))
+    (cond (ltb mostCount count) (Checked.Refused oversize (c .at)) (Checked.Behind next))))
 
 -- n unused cells
 unfoldable pub zerosCheck : List ℕ → ℕ → Cursor → Checked
 zerosCheck s zero c = Checked.Behind c
-zerosCheck s (suc n) c = bindCell (Checked.Refused 2) (readWithin s c 0 0) (λ v next. zerosCheck s n next)
+zerosCheck s (suc n) c = bindCell (Checked.Refused tornSheet) (readWithin s c 0 0) (λ v next. zerosCheck s n next)
 
 -- three cells, each from 0 to its own bound
 unfoldable pub fieldsCheck : List ℕ → Cursor → ℕ → ℕ → ℕ → Checked
 fieldsCheck s c x y z =
-    bindCell (Checked.Refused 2) (readWithin s c 0 x) (λ v c1.
-    bindCell (Checked.Refused 2) (readWithin s c1 0 y) (λ v c2.
-    bindCell (Checked.Refused 2) (readWithin s c2 0 z) (λ v c3. Checked.Behind c3)))
+    bindCell (Checked.Refused tornSheet) (readWithin s c 0 x) (λ v c1.
+    bindCell (Checked.Refused tornSheet) (readWithin s c1 0 y) (λ v c2.
+    bindCell (Checked.Refused tornSheet) (readWithin s c2 0 z) (λ v c3. Checked.Behind c3)))
 
 -- ---- types, variables, operands
 
 -- a type is a code and a count
 unfoldable pub typeCheck : List ℕ → Cursor → Checked
-typeCheck s c = bindCell (Checked.Refused 2) (readWithin s c 1 12) (λ code next. countCheck s next)
+typeCheck s c = bindCell (Checked.Refused tornSheet) (readWithin s c 1 12) (λ code next. countCheck s next)
 
 -- a return type may be 0, -1 for none
 unfoldable pub returnCheck : List ℕ → Cursor → Checked
 returnCheck s c =
-    bindCell (Checked.Refused 2) (readWithin s c 0 12) (λ code next.
-    cond (eqb code 0) (bindCell (Checked.Refused 2) (readWithin s next noArray noArray) (λ count c2. Checked.Behind c2)) (countCheck s next))
+    bindCell (Checked.Refused tornSheet) (readWithin s c 0 12) (λ code next.
+    cond (eqb code 0) (bindCell (Checked.Refused tornSheet) (readWithin s next noArray noArray) (λ count c2. Checked.Behind c2)) (countCheck s next))
 
 -- a variable is an id and its own type
 unfoldable pub varCheck : List ℕ → Cursor → Checked
-varCheck s c = bindCell (Checked.Refused 2) (readWithin s c 0 largest) (λ id next. typeCheck s next)
+varCheck s c = bindCell (Checked.Refused tornSheet) (readWithin s c 0 largest) (λ id next. typeCheck s next)
 
 -- the bounds of an operand's fields, by its position in Krc's `Operand`: 1 Int has any number and two flags, 2 Float and 5 DataAddress a
 -- number, 3 Bool a flag, 6 Null nothing
@@ -99,12 +96,12 @@ flagField kind = cond (eqb kind 1) 1 0
 -- an operand is four cells: 0 Var and 4 Address hold a variable
 unfoldable pub operandCheck : List ℕ → Cursor → Checked
 operandCheck s c =
-    bindCell (Checked.Refused 2) (readWithin s c 0 6) (λ kind next.
+    bindCell (Checked.Refused tornSheet) (readWithin s c 0 6) (λ kind next.
     cond (eqb kind 0 || eqb kind 4) (varCheck s next) (fieldsCheck s next (firstField kind) (flagField kind) (flagField kind)))
 
 unfoldable pub operandsCheck : List ℕ → ℕ → Cursor → Checked
 operandsCheck s zero c = Checked.Behind c
-operandsCheck s (suc n) c = bindChecked (operandCheck s c) (λ next. operandsCheck s n next)
+operandsCheck s (suc n) c = bindChecked Checked.Refused (operandCheck s c) (λ next. operandsCheck s n next)
 
 -- ---- instructions: position in Krc's `Instr`, operation, dest (3), left (4), right (4); a call's arguments follow
 -- 0 Copy, 1 Unary, 2 Binary, 3 Cast, 4 Zero, 5 Call, 6 Label, 7 Jump, 8 JumpIfNot, 9 Return, 10 Comment
@@ -128,57 +125,64 @@ destCheck s has c = cond has (varCheck s c) (zerosCheck s 3 c)
 unfoldable pub sideCheck : List ℕ → Bool → Cursor → Checked
 sideCheck s has c = cond has (operandCheck s c) (zerosCheck s 4 c)
 
--- a call has symbol number and argument count, at most 64, in left's first two cells
-unfoldable pub callCheck : List ℕ → Cursor → Checked
+-- a call has symbol number and argument count in left's first two cells; the count, and the cursor of the first argument
+unfoldable pub callCheck : List ℕ → Cursor → Limited
 callCheck s c =
-    bindCell (Checked.Refused 2) (readWithin s c 0 largest) (λ symbol c1.
-    bindLimited (limited s c1 64) (λ count c2. bindChecked (zerosCheck s 6 c2) (λ c3. operandsCheck s count c3)))
+    bindCell (Limited.Refused tornSheet) (readWithin s c 0 largest) (λ symbol c1.
+    bindLimited Limited.Refused (limited s c1 mostArguments) (λ count c2.
+    bindChecked Limited.Refused (zerosCheck s 6 c2) (λ c3. Limited.Word count c3)))
 
--- left and right of a kind; a call has none but its own cells
+-- a call's own cells and its arguments; left and right of any other kind
 unfoldable pub bodyCheck : List ℕ → ℕ → Cursor → Checked
 bodyCheck s kind c =
-    cond (eqb kind 5) (callCheck s c) (bindChecked (sideCheck s (hasLeft kind) c) (λ c1. sideCheck s (eqb kind 2) c1))
+    cond (eqb kind 5) (bindLimited Checked.Refused (callCheck s c) (λ count c1. operandsCheck s count c1))
+    (bindChecked Checked.Refused (sideCheck s (hasLeft kind) c) (λ c1. sideCheck s (eqb kind 2) c1))
 
 unfoldable pub instrCheck : List ℕ → Cursor → Checked
 instrCheck s c =
-    bindCell (Checked.Refused 2) (readWithin s c 0 10) (λ kind c1.
-    bindCell (Checked.Refused 2) (readWithin s c1 0 (operationMost kind)) (λ operation c2.
-    bindChecked (destCheck s (hasDest kind operation) c2) (λ c3. bodyCheck s kind c3)))
+    bindCell (Checked.Refused tornSheet) (readWithin s c 0 10) (λ kind c1.
+    bindCell (Checked.Refused tornSheet) (readWithin s c1 0 (operationMost kind)) (λ operation c2.
+    bindChecked Checked.Refused (destCheck s (hasDest kind operation) c2) (λ c3. bodyCheck s kind c3)))
 
 -- ---- the lists
 
--- n variable types; `end` is the last offset before them, and the count cell of the variable whose offset first passes the limit is refused (02, M-110)
+-- n variable types; `end` is the last offset before them, and the count cell of the variable whose offset first passes the limit is refused (M-110)
 unfoldable pub typesCheck : List ℕ → ℕ → ℕ → Cursor → Checked
 typesCheck s zero end c = Checked.Behind c
 typesCheck s (suc n) end c =
-    bindChecked (typeCheck s c) (λ next.
+    bindChecked Checked.Refused (typeCheck s c) (λ next.
     let offset : ℕ = offsetBehind end (record { code = cellAt s (c .at); count = cellAt s (c .at + 1) }) in
-    cond (ltb 1048576 offset) (Checked.Refused 3 (c .at + 1)) (typesCheck s n offset next))
+    cond (ltb mostCount offset) (Checked.Refused oversize (c .at + 1)) (typesCheck s n offset next))
 
 unfoldable pub varsCheck : List ℕ → ℕ → Cursor → Checked
 varsCheck s zero c = Checked.Behind c
-varsCheck s (suc n) c = bindChecked (varCheck s c) (λ next. varsCheck s n next)
+varsCheck s (suc n) c = bindChecked Checked.Refused (varCheck s c) (λ next. varsCheck s n next)
 
 unfoldable pub instrsCheck : List ℕ → ℕ → Cursor → Checked
 instrsCheck s zero c = Checked.Behind c
-instrsCheck s (suc n) c = bindChecked (instrCheck s c) (λ next. instrsCheck s n next)
+instrsCheck s (suc n) c = bindChecked Checked.Refused (instrCheck s c) (λ next. instrsCheck s n next)
 
 -- ---- the sheet: variable count, parameter count, label count, return type, instruction count; then variable types, parameters, instructions
 
-unfoldable pub listsCheck : List ℕ → ℕ → ℕ → ℕ → Cursor → Checked
-listsCheck s vars params instrs c =
-    bindChecked (typesCheck s vars 0 c) (λ c1.
-    bindChecked (varsCheck s params c1) (λ c2. bindChecked (instrsCheck s instrs c2) (λ c3. endCheck 2 s c3)))
+-- the head from the return type on, of so many variables and parameters; the number of instructions, and the cursor of the first
+unfoldable pub restHead : List ℕ → ℕ → ℕ → Cursor → Limited
+restHead s vars params c =
+    bindChecked Limited.Refused (returnCheck s c) (λ c1.
+    bindLimited Limited.Refused (limited s c1 mostInstructions) (λ instrs c2.
+    bindChecked Limited.Refused (typesCheck s vars 0 c2) (λ c3.
+    bindChecked Limited.Refused (varsCheck s params c3) (λ c4. Limited.Word instrs c4))))
 
-unfoldable pub restCheck : List ℕ → ℕ → ℕ → Cursor → Checked
-restCheck s vars params c =
-    bindChecked (returnCheck s c) (λ c1. bindLimited (limited s c1 4096) (λ instrs c2. listsCheck s vars params instrs c2))
+-- the head, which is all before the instructions
+unfoldable pub headCheck : List ℕ → Limited
+headCheck s =
+    bindLimited Limited.Refused (limited s (cursor 0) mostVariables) (λ vars c1.
+    bindLimited Limited.Refused (limited s c1 mostParameters) (λ params c2.
+    bindLimited Limited.Refused (limited s c2 mostLabels) (λ labels c3. restHead s vars params c3)))
 
 unfoldable pub sheetCheck : List ℕ → Checked
 sheetCheck s =
-    bindLimited (limited s (cursor 0) 256) (λ vars c1.
-    bindLimited (limited s c1 256) (λ params c2.
-    bindLimited (limited s c2 256) (λ labels c3. restCheck s vars params c3)))
+    bindLimited Checked.Refused (headCheck s) (λ instrs c.
+    bindChecked Checked.Refused (instrsCheck s instrs c) (λ end. endCheck tornSheet s end))
 
 -- the layout of a sheet is right
 pub record Laid (s : List ℕ) : Type 0 where

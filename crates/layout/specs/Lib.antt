@@ -1,2 +1,3 @@
-pub mod Accepts
+pub mod Limits
 pub mod Layout
+pub mod Sides

@@ -1,8 +1,9 @@
 // The layout of tables and sheet is checked here. The first wrong cell in reading order is refused by 1, 2 or 3.
-mod accepts;
 pub mod instrs;
-pub mod lists;
+pub mod limits;
+mod lists;
 pub mod parts;
+pub mod sheet;
 pub mod tables;
 
 use cells::Cursor;
@@ -10,11 +11,11 @@ use cells::Cursor;
 // Reading a cell with a limit finds the cell and the cursor behind it, or the refusal's number and cell.
 pub enum Limited {
     Word(u64, Cursor),
-    Refused(u64, usize),
+    Refused(u8, usize),
 }
 
 // Checking a part of a layout finds the cursor behind it, or the refusal's number and cell.
 pub enum Checked {
     Behind(Cursor),
-    Refused(u64, usize),
+    Refused(u8, usize),
 }

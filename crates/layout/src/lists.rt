@@ -1,52 +1,44 @@
-// The parameters and the instructions of a sheet are checked one after the other.
+// The variable types and the parameters of a sheet are checked one after the other.
 use crate::Checked;
-use crate::accepts::accepts_instr;
-use crate::instrs::instr_check;
+use crate::limits::MOST_COUNT;
+use crate::parts::type_check;
 use crate::parts::var_check;
 use cells::Cursor;
+use cells::refusals::OVERSIZE;
+use ir::read::type_at;
+use ir::types::offset_behind;
 ghost use mathlib.Core.Path.{_≡_};
-ghost use Rattle.layout.specs.Layout.{varsCheck, instrCheck, instrsCheck};
+ghost use Rattle.layout.specs.Layout.{typesCheck, varsCheck};
 
-// It checks `n` variables from the cursor on.
-pub fn vars_check(s: &[u8], n: u64, c: Cursor) -> Checked
+// An offset stays within its limit: the count cell of the variable that first passes it is refused.
+pub(crate) fn types_check(s: &[u8], n: u64, c: Cursor) -> Checked
+    ensures { λ r. ⌜ r ≡ typesCheck (now (s .entry)) n 0 c ⌝ }
+{
+    let mut left = n;
+    let mut end: u64 = 0;
+    let mut here = c;
+    while 0 < left {
+        let next = match type_check(s, here) {
+            Checked::Behind(next) => next,
+            Checked::Refused(number, k) => return Checked::Refused(number, k),
+        };
+        end = offset_behind(end, type_at(s, here.at));
+        if MOST_COUNT < end {
+            return Checked::Refused(OVERSIZE, here.at + 1);
+        }
+        here = next;
+        left -= 1;
+    }
+    Checked::Behind(here)
+}
+
+pub(crate) fn vars_check(s: &[u8], n: u64, c: Cursor) -> Checked
     ensures { λ r. ⌜ r ≡ varsCheck (now (s .entry)) n c ⌝ }
 {
     let mut left = n;
     let mut here = c;
     while 0 < left {
         match var_check(s, here) {
-            Checked::Behind(next) => {
-                here = next;
-            }
-            Checked::Refused(number, k) => {
-                return Checked::Refused(number, k);
-            }
-        }
-        left -= 1;
-    }
-    Checked::Behind(here)
-}
-
-// It checks one instruction with its arguments. An instruction that is right and no call is 13 cells, so the cursor behind it is known at once; any other is
-// read cell by cell with the cursor, which finds the first wrong cell.
-pub fn next_instr(s: &[u8], c: Cursor) -> Checked
-    ensures { λ r. ⌜ r ≡ instrCheck (now (s .entry)) c ⌝ }
-{
-    if accepts_instr(s, c.at) {
-        return Checked::Behind(Cursor { at: c.at + 13 });
-    }
-    instr_check(s, c)
-}
-
-// It checks `n` instructions from the cursor on. Only a sheet with an instruction that is refused is read by it, from there on; so it has the cursor alone,
-// and `next_instr` is called from one place, where it is inlined.
-pub fn instrs_check(s: &[u8], n: u64, c: Cursor) -> Checked
-    ensures { λ r. ⌜ r ≡ instrsCheck (now (s .entry)) n c ⌝ }
-{
-    let mut left = n;
-    let mut here = c;
-    while 0 < left {
-        match instr_check(s, here) {
             Checked::Behind(next) => {
                 here = next;
             }

@@ -1,20 +1,20 @@
 // The cells, types, variables and operands of a sheet are checked here.
 use crate::Checked;
 use crate::Limited;
+use crate::limits::MOST_COUNT;
 use cells::Cell;
 use cells::Cursor;
+use cells::refusals::OVERSIZE;
+use cells::refusals::TORN_SHEET;
 use ir::Type;
 ghost use mathlib.Core.Path.{_≡_};
-ghost use Rattle.layout.specs.Layout.{endCheck, limited, countCheck, zerosCheck, fieldsCheck, typeCheck, returnCheck, varCheck, firstField, flagField, operandCheck, operandsCheck};
+ghost use Rattle.layout.specs.Layout.{endCheck, limited, countCheck, zerosCheck, fieldsCheck, typeCheck, returnCheck, varCheck, firstField, operandCheck, operandsCheck};
 
 // This is the largest number that is not negative.
 pub(crate) const LARGEST: u64 = 0x7fff_ffff_ffff_ffff;
 
-// This is the largest count of an array, and the largest offset of a variable.
-pub const MOST_BYTES: u64 = 1048576;
-
 // Nothing is left behind the cursor, not even a torn cell.
-pub fn end_check(number: u64, s: &[u8], c: Cursor) -> Checked
+pub fn end_check(number: u8, s: &[u8], c: Cursor) -> Checked
     ensures { λ r. ⌜ r ≡ endCheck number (now (s .entry)) c ⌝ }
 {
     let at = c.at;
@@ -30,17 +30,17 @@ pub fn end_check(number: u64, s: &[u8], c: Cursor) -> Checked
 }
 
 // A count that is negative is off the layout, and one above its limit is oversize.
-pub fn limited(s: &[u8], c: Cursor, most: u64) -> Limited
+pub(crate) fn limited(s: &[u8], c: Cursor, most: u64) -> Limited
     ensures { λ r. ⌜ r ≡ limited (now (s .entry)) c most ⌝ }
 {
     match c.within(s, 0, LARGEST) {
         Cell::Word(v, next) => {
             if most < v {
-                return Limited::Refused(3, c.at);
+                return Limited::Refused(OVERSIZE, c.at);
             }
             Limited::Word(v, next)
         }
-        Cell::Wrong(k) => Limited::Refused(2, k),
+        Cell::Wrong(k) => Limited::Refused(TORN_SHEET, k),
     }
 }
 
@@ -54,18 +54,18 @@ fn count_check(s: &[u8], c: Cursor) -> Checked
                 return Checked::Behind(next);
             }
             if LARGEST < count {
-                return Checked::Refused(2, c.at);
+                return Checked::Refused(TORN_SHEET, c.at);
             }
-            if MOST_BYTES < count {
-                return Checked::Refused(3, c.at);
+            if MOST_COUNT < count {
+                return Checked::Refused(OVERSIZE, c.at);
             }
             Checked::Behind(next)
         }
-        Cell::Wrong(k) => Checked::Refused(2, k),
+        Cell::Wrong(k) => Checked::Refused(TORN_SHEET, k),
     }
 }
 
-// It checks `n` unused cells.
+// These are `n` unused cells.
 pub(crate) fn zeros_check(s: &[u8], n: u64, c: Cursor) -> Checked
     ensures { λ r. ⌜ r ≡ zerosCheck (now (s .entry)) n c ⌝ }
 {
@@ -77,7 +77,7 @@ pub(crate) fn zeros_check(s: &[u8], n: u64, c: Cursor) -> Checked
                 here = next;
             }
             Cell::Wrong(k) => {
-                return Checked::Refused(2, k);
+                return Checked::Refused(TORN_SHEET, k);
             }
         }
         left -= 1;
@@ -93,26 +93,26 @@ fn fields_check(s: &[u8], c: Cursor, x: u64, y: u64, z: u64) -> Checked
         Cell::Word(_, c1) => match c1.within(s, 0, y) {
             Cell::Word(_, c2) => match c2.within(s, 0, z) {
                 Cell::Word(_, c3) => Checked::Behind(c3),
-                Cell::Wrong(k) => Checked::Refused(2, k),
+                Cell::Wrong(k) => Checked::Refused(TORN_SHEET, k),
             },
-            Cell::Wrong(k) => Checked::Refused(2, k),
+            Cell::Wrong(k) => Checked::Refused(TORN_SHEET, k),
         },
-        Cell::Wrong(k) => Checked::Refused(2, k),
+        Cell::Wrong(k) => Checked::Refused(TORN_SHEET, k),
     }
 }
 
 // A type is a code and a count.
-pub fn type_check(s: &[u8], c: Cursor) -> Checked
+pub(crate) fn type_check(s: &[u8], c: Cursor) -> Checked
     ensures { λ r. ⌜ r ≡ typeCheck (now (s .entry)) c ⌝ }
 {
     match c.within(s, 1, 12) {
         Cell::Word(_, next) => count_check(s, next),
-        Cell::Wrong(k) => Checked::Refused(2, k),
+        Cell::Wrong(k) => Checked::Refused(TORN_SHEET, k),
     }
 }
 
 // A return type may be 0, -1 for none.
-pub fn return_check(s: &[u8], c: Cursor) -> Checked
+pub(crate) fn return_check(s: &[u8], c: Cursor) -> Checked
     ensures { λ r. ⌜ r ≡ returnCheck (now (s .entry)) c ⌝ }
 {
     match c.within(s, 0, 12) {
@@ -120,12 +120,12 @@ pub fn return_check(s: &[u8], c: Cursor) -> Checked
             if code == 0 {
                 return match next.within(s, Type::NO_ARRAY, Type::NO_ARRAY) {
                     Cell::Word(_, c2) => Checked::Behind(c2),
-                    Cell::Wrong(k) => Checked::Refused(2, k),
+                    Cell::Wrong(k) => Checked::Refused(TORN_SHEET, k),
                 };
             }
             count_check(s, next)
         }
-        Cell::Wrong(k) => Checked::Refused(2, k),
+        Cell::Wrong(k) => Checked::Refused(TORN_SHEET, k),
     }
 }
 
@@ -135,12 +135,12 @@ pub(crate) fn var_check(s: &[u8], c: Cursor) -> Checked
 {
     match c.within(s, 0, LARGEST) {
         Cell::Word(_, next) => type_check(s, next),
-        Cell::Wrong(k) => Checked::Refused(2, k),
+        Cell::Wrong(k) => Checked::Refused(TORN_SHEET, k),
     }
 }
 
-// It gives the bound of an operand's first field, by its position in Krc's `Operand`.
-pub(crate) fn first_field(kind: u64) -> u64
+// This is the bound of an operand's first field, by its position in Krc's `Operand`.
+fn first_field(kind: u64) -> u64
     ensures { λ r. ⌜ r ≡ firstField kind ⌝ }
 {
     match kind {
@@ -151,26 +151,18 @@ pub(crate) fn first_field(kind: u64) -> u64
     }
 }
 
-fn flag_field(kind: u64) -> u64
-    ensures { λ r. ⌜ r ≡ flagField kind ⌝ }
-{
-    if kind == 1 { 1 } else { 0 }
-}
-
-// An operand is four cells: 0 Var and 4 Address hold a variable.
-pub(crate) fn operand_check(s: &[u8], c: Cursor) -> Checked
+// An operand is four cells: 0 Var and 4 Address hold a variable, and 1 Int has flags.
+fn operand_check(s: &[u8], c: Cursor) -> Checked
     ensures { λ r. ⌜ r ≡ operandCheck (now (s .entry)) c ⌝ }
 {
     match c.within(s, 0, 6) {
         Cell::Word(kind, next) => match kind {
             0 => var_check(s, next),
+            1 => fields_check(s, next, first_field(kind), 1, 1),
             4 => var_check(s, next),
-            _ => {
-                let flag = flag_field(kind);
-                fields_check(s, next, first_field(kind), flag, flag)
-            }
+            _ => fields_check(s, next, first_field(kind), 0, 0),
         },
-        Cell::Wrong(k) => Checked::Refused(2, k),
+        Cell::Wrong(k) => Checked::Refused(TORN_SHEET, k),
     }
 }
 

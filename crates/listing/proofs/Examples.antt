@@ -1,4 +1,4 @@
--- What 01 says of the text: its listing, by computation, and the inputs that are not lowered (01, "The listing program").
+-- The text of the listing example, by computation, and of the inputs that are not lowered (docs/FORMAT.md, "The listing program").
 use Prim.Native.Nat.{ℕ, _^_, _≤_, _<_}
 use mathlib.Core.Path.{_≡_, refl}
 use mathlib.Core.List.{List, [], _∷_, flatten, append-nil}
@@ -19,7 +19,7 @@ use Rattle.text.specs.Text.{digits, signed, numbersLine, okLine, refusedLine, t
 use Rattle.text.specs.Input.{splitOf}
 use Rattle.listing.specs.Listing.{recordLine, answerLines, listingLines, listingText}
 
--- the eight records of 01's listing
+-- the eight records of the listing example
 eight : List Instruction
 eight =
     Instruction.Stack StackOp.Push (Operand.Reg RBP) Size.NoSize

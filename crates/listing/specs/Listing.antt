@@ -1,4 +1,4 @@
--- Believed: the text that the listing program writes for an input, and what it leaves in its record bytes (01, "The listing program").
+-- Believed: the text that the listing program writes for an input, and what it leaves in its record bytes (docs/FORMAT.md, "The listing program").
 use Prim.Native.Nat.{ℕ}
 use mathlib.Core.List.{List, [], _∷_, map, flatten}
 use lib.ListN.{length}
@@ -9,24 +9,24 @@ use Rattle.text.specs.declared.input.Parts.{Parts}
 use Rattle.text.specs.Input.{splitOf, tablesPart, sheetPart}
 use Rattle.text.specs.Text.{numbersLine, okLine, refusedLine, tooLongLine}
 
--- a record's eight numbers (01, "Record": form, operation, dst tag, dst value, src tag, src value, size, source size)
+-- a record's eight numbers (docs/FORMAT.md, "Records": form, operation, dst tag, dst value, src tag, src value, size, source size)
 abbrev pub numbersOf : Record → List ℕ
 numbersOf r = r .form ∷ r .operation ∷ r .dstTag ∷ r .dst ∷ r .srcTag ∷ r .src ∷ r .size ∷ r .srcSize ∷ []
 
--- the line of a record (01: "one line of eight numbers a record, in the order under Record")
+-- the line of a record ("a line of eight numbers for each")
 unfoldable pub recordLine : Instruction → List ℕ
 recordLine i = numbersLine (numbersOf (recordOf i))
 
--- the lines for what the lowering answers (01: "`ok` and the record count, then one line .. a record .. or `refused`, number, place")
+-- the lines for what the lowering answers ("`ok` and the number of records, then a line .. for each, or `refused`, number and place")
 abbrev pub answerLines : Outcome (List Instruction) → List (List ℕ)
 answerLines (accepted is) = okLine (length is) ∷ map recordLine is
 answerLines (refused n place) = refusedLine n place ∷ []
 
--- what the lowering answers for an input whose first cell is n (01: "Buffers are 64 KiB")
+-- what the lowering answers for an input whose first cell is n ("There is room for 65,536 bytes of records")
 abbrev pub answerTo : List ℕ → ℕ → Outcome (List Instruction)
 answerTo s n = lowered (tablesPart s n) (sheetPart s n) 65536
 
--- the lines by the parts of an input (01: "A first cell that is missing, negative or beyond the cells that follow gives `refused 1 0`")
+-- the lines by the parts of an input ("A first cell that is missing, negative or above the number of whole cells behind it gives `refused 1 0`")
 abbrev pub partsLines : Parts → List ℕ → List (List ℕ)
 partsLines Parts.TooLong s = tooLongLine ∷ []
 partsLines Parts.NoTables s = refusedLine 1 0 ∷ []

@@ -6,6 +6,7 @@ use mathlib.Core.List.{List, [], _∷_, _++_, append-assoc, append-nil}
 use lib.ListN.{length, take, drop, length-append, take-append-drop}
 use lib.Seq.{drop-at}
 use native.Mathlib.Omega.{arith}
+use Rattle.cells.specs.Refusals.{noWidth}
 use Rattle.x86.specs.declared.enums.Instruction.{Instruction}
 use Rattle.ir.specs.Types as types
 use Rattle.ir.specs.Types.{Result, ok}
@@ -105,7 +106,7 @@ module _ (tables : Tables) (F : Function) where
   unfolding generate code varOffsets
   accepted-list is e = go (haveWidths (F .vars)) e
     where
-      go : (b : Bool) → (at 0 (cond b (ok (offsetsFrom 0 (F .vars))) (types.refused 4)) >>= λ offsets.
+      go : (b : Bool) → (at 0 (cond b (ok (offsetsFrom 0 (F .vars))) (types.refused noWidth)) >>= λ offsets.
           at 0 (funcPrologue (contextOf tables offsets) (frame (F .vars)) (F .params)) >>= λ prologue.
           generateBody (contextOf tables offsets) (F .labels) (F .ret) 1 (F .body) >>= λ body. accepted (withEpilogue (prologue ++ body))) ≡ accepted is
           → Accepted tables F × (is ≡ code tables F)

@@ -7,6 +7,7 @@ use lib.Dec.{ltb, leb, eqb}
 use lib.ListN.{length, getD, drop}
 use native.Mathlib.Omega.{arith}
 use borrow.Author.Tests.{ltb-true, leb-true, eqb-true, eqb-false}
+use Rattle.cells.specs.Refusals.{noWidth}
 use Rattle.ir.specs.declared.«Type».{«Type» as IrType}
 use Rattle.ir.specs.declared.VarId.{VarId}
 use Rattle.ir.specs.declared.Operand.{Operand as IrOp}
@@ -74,7 +75,7 @@ scalar-type ty e f =
 plain-size : (ty : IrType) → isPlainCode (ty .code) ≡ true → typeSize ty ≡ ok (bytes ty)
 unfolding typeSize elementWidth
 plain-size ty f =
-    ap (λ (b : Bool). cond b (types.refused 4) (ok (bytes ty)))
+    ap (λ (b : Bool). cond b (types.refused noWidth) (ok (bytes ty)))
     (plain-code (λ k. eqb (elementWidth k) 0 ≡ false) (ty .code) f refl refl refl refl refl refl refl refl)
 
 same-type : (a b : IrType) → sameType a b ≡ true → a ≡ b

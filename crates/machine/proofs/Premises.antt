@@ -1,4 +1,4 @@
--- The premises of the demands can be met, all at once: 01's listing example is accepted and plain, its parameter's store meets no other, and there is
+-- The premises of the demands can be met, all at once: the listing example is accepted and plain, its parameter's store meets no other, and there is
 -- an entry by the ABI.
 use Prim.Native.Nat.{ℕ, zero, suc}
 use mathlib.Core.Path.{_≡_, refl}
@@ -9,7 +9,7 @@ use lib.ListN.{length, replicate}
 use Rattle.cells.specs.Cells.{bytesOf, minus, word, half, readCell, readWithin}
 use Rattle.ir.specs.Types.{bytes, offsetBehind, lastOffset, typeSize, isFloat, isUnsigned, elementWidth, elfSize, operandSize}
 use Rattle.ir.specs.Function.{tablesOf, operandAt, instrAt, argumentsAt, behind, typesAt, varsAt, operandsAt, linesAt, functionOf}
-use Rattle.layout.specs.Layout.{endCheck, floatsCheck, tablesCheck, limited, countCheck, zerosCheck, fieldsCheck, typeCheck, returnCheck, varCheck, operandCheck, operandsCheck, destCheck, sideCheck, callCheck, bodyCheck, instrCheck, typesCheck, varsCheck, instrsCheck, listsCheck, restCheck, sheetCheck}
+use Rattle.layout.specs.Layout.{endCheck, floatsCheck, tablesCheck, limited, countCheck, zerosCheck, fieldsCheck, typeCheck, returnCheck, varCheck, operandCheck, operandsCheck, destCheck, sideCheck, callCheck, bodyCheck, instrCheck, typesCheck, varsCheck, instrsCheck, restHead, headCheck, sheetCheck}
 use Rattle.x86.specs.declared.enums.Instruction.{Instruction}
 use Rattle.codegen.specs.Context.{displacement}
 use Rattle.codegen.specs.Utils.{sizeFrom, varSize, convertVar, convertOperand, ownSize, loadFrom, loadValue, loadOperand}
@@ -23,7 +23,7 @@ use Rattle.machine.specs.Simulation.{Entry, Simulates, Demand3}
 use Rattle.machine.specs.Calls.{Apart}
 use Rattle.machine.proofs.Demand3.{demand3}
 
--- ---- the example (01, "The listing program")
+-- ---- the example (docs/FORMAT.md, "The listing program")
 
 abbrev fromCells : List ℕ → List ℕ
 fromCells [] = []
@@ -68,7 +68,7 @@ pub record Premises : Type 0 where
   pub enters : Entry entry
 
 pub premises : Premises
-unfolding bytesOf word half readCell readWithin bytes offsetBehind lastOffset typeSize isFloat isUnsigned elementWidth elfSize operandSize tablesOf operandAt instrAt argumentsAt behind typesAt varsAt operandsAt linesAt functionOf endCheck floatsCheck tablesCheck limited countCheck zerosCheck fieldsCheck typeCheck returnCheck varCheck operandCheck operandsCheck destCheck sideCheck callCheck bodyCheck instrCheck typesCheck varsCheck instrsCheck listsCheck restCheck sheetCheck displacement sizeFrom varSize convertVar convertOperand ownSize loadFrom loadValue loadOperand generateReturn offsetsFrom haveWidths varOffsets excess storeParams copyParams funcPrologue generateInstr generateBody endsInRet withEpilogue generate compiled lowered every areDistinct isPlainHead isPlainInstr isPlainAt isFault
+unfolding bytesOf word half readCell readWithin bytes offsetBehind lastOffset typeSize isFloat isUnsigned elementWidth elfSize operandSize tablesOf operandAt instrAt argumentsAt behind typesAt varsAt operandsAt linesAt functionOf endCheck floatsCheck tablesCheck limited countCheck zerosCheck fieldsCheck typeCheck returnCheck varCheck operandCheck operandsCheck destCheck sideCheck callCheck bodyCheck instrCheck typesCheck varsCheck instrsCheck restHead headCheck sheetCheck displacement sizeFrom varSize convertVar convertOperand ownSize loadFrom loadValue loadOperand generateReturn offsetsFrom haveWidths varOffsets excess storeParams copyParams funcPrologue generateInstr generateBody endsInRet withEpilogue generate compiled lowered every areDistinct isPlainHead isPlainInstr isPlainAt isFault
 premises =
     record {
       accepts = refl;

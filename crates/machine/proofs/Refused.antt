@@ -5,6 +5,7 @@ use mathlib.Core.Bool.{Bool, true, false, cond}
 use mathlib.Core.List.{List, [], _∷_, _++_}
 use lib.ListN.{length, drop}
 use native.Mathlib.Omega.{arith}
+use Rattle.cells.specs.Refusals.{noWidth}
 use Rattle.x86.specs.declared.enums.Instruction.{Instruction}
 use Rattle.ir.specs.Types as types
 use Rattle.ir.specs.Types.{Result, ok}
@@ -85,7 +86,7 @@ module _ (tables : Tables) (F : Function) where
       front (ok is) e = late is n place (bodyOf 1 (F .body)) refl e
       front (types.refused m) e = early e
 
-      widths : (b : Bool) → (at 0 (cond b (ok (offsetsFrom 0 (F .vars))) (types.refused 4)) >>= λ offsets.
+      widths : (b : Bool) → (at 0 (cond b (ok (offsetsFrom 0 (F .vars))) (types.refused noWidth)) >>= λ offsets.
           at 0 (funcPrologue (contextOf tables offsets) (frame (F .vars)) (F .params)) >>= λ prologue.
           generateBody (contextOf tables offsets) (F .labels) (F .ret) 1 (F .body) >>= λ body. accepted (withEpilogue (prologue ++ body))) ≡ refused n place
           → Refused place

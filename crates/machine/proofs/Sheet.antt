@@ -4,15 +4,17 @@ use mathlib.Core.Path.{_≡_, refl, sym, ap, _∙_}
 use mathlib.Core.Bool.{Bool, true, false, cond, not, _||_, false≢true}
 use mathlib.Core.List.{List, []}
 use mathlib.Core.Option.{some}
-use lib.Dec.{ltb, lit≤}
+use lib.Dec.{ltb}
 use lib.ListN.{length, drop}
 use native.Mathlib.Omega.{arith}
 use Rattle.ir.specs.Types.{lastOffset}
 use Rattle.ir.specs.Function.{tablesOf, functionOf}
 use Rattle.cells.specs.declared.Cursor.{Cursor}
+use Rattle.cells.specs.Refusals.{pageFull}
 use Rattle.layout.specs.declared.Checked.{Checked}
-use Rattle.layout.specs.Layout.{cursor, tablesCheck, sheetCheck, Laid}
-use Rattle.layout.proofs.Laws.{sheet-right, types-total}
+use Rattle.layout.specs.Layout.{tablesCheck, sheetCheck, Laid}
+use Rattle.layout.specs.Limits.{mostCount}
+use Rattle.layout.proofs.Laws.{head-total, head-laid}
 use Rattle.layout.proofs.Walk.{laid-from}
 use Rattle.x86.specs.declared.enums.Instruction.{Instruction}
 use Rattle.x86.specs.Decode.{decodeList}
@@ -33,7 +35,7 @@ checked-accepted (Checked.Refused n cell) rest a e = absurd (never e)
 page-accepted : (m : ℕ) (b is : List Instruction) → page m b ≡ accepted is → b ≡ is
 page-accepted m b is e = go (ltb m (64 * length b)) e
   where
-    go : (t : Bool) → cond t (refused 9 (length b)) (accepted b) ≡ accepted is → b ≡ is
+    go : (t : Bool) → cond t (refused pageFull (length b)) (accepted b) ≡ accepted is → b ≡ is
     go true e = absurd (never e)
     go false e = taken e
 
@@ -60,13 +62,13 @@ module _ (tables sheet : List ℕ) (m : ℕ) (is : List Instruction) (e : lowere
   pub plain-all : Plain tables sheet → (k : ℕ) → isPlainAt (functionOf sheet) k ≡ true
   plain-all p k = plain-yes _ _ (sym (parts .1 k) ∙ p .faultless k)
 
-  -- the total of the variables' sizes is within its limit
-  pub small : lastOffset 0 (functionOf sheet .vars) ≤ 1048576
-  unfolding functionOf
-  small = types-total sheet _ 0 (cursor 6) (sheet-right sheet (parts .2 .1) .head .types) (lit≤ tt)
-
   laid : Laid sheet
   laid = laid-from (parts .2 .1)
+
+  -- the total of the variables' sizes is within its limit
+  pub small : lastOffset 0 (functionOf sheet .vars) ≤ mostCount
+  unfolding functionOf
+  small = head-total sheet (head-laid laid)
 
   -- .. and so are its parameters and each call's arguments
   pub few-params : length (functionOf sheet .params) ≤ 256

@@ -1,5 +1,5 @@
 -- Believed: it is demand 2. What the System V ABI asks of every accepted list, with its floats and calls: 3.2.1 (the direction flag), 3.2.2 (the stack
--- frame), 3.2.3 (parameter passing); the slots by 01, "For demand 3".
+-- frame), 3.2.3 (parameter passing); the slots by docs/FORMAT.md, "Records".
 use Prim.Native.Nat.{ℕ, suc, _+_, _*_, _-_, _%_, _<_, _≤_, max}
 use mathlib.Core.Path.{_≡_}
 use mathlib.Core.Logic.{_⊎_}

@@ -19,7 +19,7 @@ use Rattle.x86.specs.Registers.{number}
 use Rattle.x86.specs.Records.{sizeCode}
 use Rattle.machine.specs.Word.{W, bound}
 
--- no size means eight bytes (01, "Plain integer functions"); for a form that has one width only see `isOwn`
+-- no size means eight bytes (docs/FORMAT.md, "Records"); for a form that has one width only see `isOwn`
 abbrev pub bytes : Size → ℕ
 bytes Size.NoSize = 8
 bytes Size.U8 = 1
@@ -27,7 +27,7 @@ bytes Size.U16 = 2
 bytes Size.U32 = 4
 bytes Size.U64 = 8
 
--- n bytes, or no size: the width of a form that has only this one (01, "Plain integer functions")
+-- n bytes, or no size: the width of a form that has only this one (docs/FORMAT.md, "Records")
 abbrev pub isOwn : ℕ → Size → Bool
 isOwn n z = eqb (sizeCode z) 0 || eqb (bytes z) n
 

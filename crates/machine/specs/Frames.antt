@@ -1,5 +1,5 @@
--- Believed: demands 2 and 3 rest on it. The variables' slots and the frame (01, demand 2 and "For demand 3"), in the claims' own words: with the
--- lowering they share the sizes of types, and no offset.
+-- Believed: demands 2 and 3 rest on it. The variables' slots and the frame (docs/FORMAT.md, "Records"; docs/CONTRACTS.md, "Demand 2"), in the
+-- claims' own words: with the lowering they share the sizes of types, and no offset.
 use Prim.Native.Nat.{ℕ, zero, suc, _+_, _*_, _-_, _/_, _%_, _<_, _≤_}
 use mathlib.Core.Path.{_≡_}
 use mathlib.Core.Bool.{cond}
@@ -16,7 +16,7 @@ abbrev pub unit : IrType → ℕ
 unit t = elementWidth (t .code)
 
 -- a variable's offset, where that of the one before it is `end`: the least multiple of its element's width not below `end` plus its size, or `end`
--- where it has no width (02, M-110)
+-- where it has no width (M-110)
 unfoldable pub behind : ℕ → IrType → ℕ
 behind end t = cond (eqb (unit t) 0) end ((end + bytes t + (unit t - 1)) / unit t * unit t)
 

@@ -274,7 +274,7 @@ execComplex ComplexBinOp.Div d x n u s = divideBy (u .flags) n (dividend n s) (r
 execComplex ComplexBinOp.Imul d x n u s = multiplyBy (u .flags) d n (read n d s) (read n x s) s
 execComplex ComplexBinOp.Idiv d x n u s = divideSigned (u .flags) n (dividend n s) (read n x s) s
 
--- DIV and IDIV: of the records only these fault (01, "Plain integer functions")
+-- DIV and IDIV: of the records only these fault (docs/FORMAT.md, "Plain functions")
 abbrev pub isDivision : ComplexBinOp → Bool
 isDivision ComplexBinOp.Div = true
 isDivision ComplexBinOp.Imul = false

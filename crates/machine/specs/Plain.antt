@@ -1,4 +1,4 @@
--- Believed: demand 3 and the plain test rest on it. Which functions are plain (01, "Plain integer functions"): for each number whether it is at
+-- Believed: demand 3 and the plain test rest on it. Which functions are plain (docs/FORMAT.md, "Plain functions"): for each number whether it is at
 -- fault, 0 for variables, parameters, the return type and refusals 1 to 3, else the instruction's number from 1.
 use Prim.Native.Nat.{ℕ, zero, suc, _+_, _%_, _^_}
 use mathlib.Core.Path.{_≡_}
@@ -110,7 +110,7 @@ isBool Operand.Null = false
 abbrev pub isOneByte : VarId → Bool
 isOneByte d = eqb (bytes (d .ty)) 1
 
--- the width of left and right against dest, and what else an operation asks of dest and right; Div and Rem have a dest of either sign (02, M-106)
+-- the width of left and right against dest, and what else an operation asks of dest and right; Div and Rem have a dest of either sign (M-106)
 unfoldable pub isPlainBinary : BinaryOp → VarId → Operand → Operand → Bool
 isPlainBinary BinaryOp.Or d x y = false
 isPlainBinary BinaryOp.And d x y = false

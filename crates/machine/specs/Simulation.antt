@@ -1,4 +1,5 @@
--- Believed: it is demand 3. What a run of the lowered list of a plain function does, as one claim about the whole run (01, "For demand 3").
+-- Believed: it is demand 3. What a run of the lowered list of a plain function does, as one claim about the whole run (docs/FORMAT.md, "Plain functions";
+-- docs/CONTRACTS.md, "Demand 3").
 use Prim.Native.Nat.{ℕ, suc, _+_, _*_, _-_, _%_, _<_, _≤_}
 use mathlib.Core.Path.{_≡_}
 use mathlib.Core.Logic.{_↔_, _⊎_}
@@ -32,7 +33,7 @@ pub record Entry (s : State) : Type 0 where
   pub aligned : (s .regs 4 + 8) % 16 ≡ 0
   pub upward : s .flags .df ≡ false
 
--- B, where the caller's RBP is saved: RSP at entry less 8; the frame ends here (01, "For demand 3")
+-- B, where the caller's RBP is saved: RSP at entry less 8; the frame ends here (docs/FORMAT.md, "Plain functions")
 abbrev pub base : State → ℕ
 base s = (s .regs 4 + (W - 8)) % W
 
@@ -119,7 +120,7 @@ pub record Agrees (tables : Tables) (F : Function) (c : List Instruction) (s₀ 
   pub slots : (x i : ℕ) → x < length (F .vars) → i < sizeOf (F .vars) x → s .mem (slotByte (F .vars) (base s₀) x i) ≡ t .vals x i
   pub stands : Stands tables F c s₀ s t (t .status)
 
--- the most records for n steps of F, with k parameters beyond the six registers: 12 + 2k + 5n (01, demand 3; M-112)
+-- the most records for n steps of F, with k parameters beyond the six registers: 12 + 2k + 5n (M-112)
 abbrev pub most : Function → ℕ → ℕ
 most F n = 12 + 2 * (length (F .params) - 6) + 5 * n
 

@@ -1,4 +1,4 @@
--- Believed: demand 3 rests on it. F's states and steps (01, "Plain integer functions"). They are defined for every function. F is stuck at a Call, at a
+-- Believed: demand 3 rests on it. F's states and steps (docs/FORMAT.md, "Plain functions"). They are defined for every function. F is stuck at a Call, at a
 -- logical And or Or, at a float constant, a string address or an `Address` as operand, and where it jumps to a label that stands nowhere. No claim
 -- rests on what else a function does here that is not plain.
 use Prim.Native.Nat.{ℕ, zero, suc, _+_, _*_, _-_, _/_, _%_, _^_}
@@ -93,7 +93,7 @@ abbrev pub shiftRight : Bool → ℕ → ℕ → ℕ → ℕ
 shiftRight true n a k = arithDown n a k
 shiftRight false n a k = a / 2 ^ k
 
--- Div and Rem read both operands as signed where dest is, else as unsigned (02, M-106): the quotient is rounded toward zero, and the remainder has
+-- Div and Rem read both operands as signed where dest is, else as unsigned (M-106): the quotient is rounded toward zero, and the remainder has
 -- the dividend's sign
 abbrev pub quotient : Bool → ℕ → ℕ → ℕ → ℕ
 quotient true n a b = negated (differ (sign n a) (sign n b)) n (magnitude n a / magnitude n b)
@@ -132,7 +132,7 @@ unary UnaryOp.BitNot n a = invert n a
 unary UnaryOp.Not n a = bitXor n a 1
 
 -- a number of n bytes as one of m bytes: narrowing keeps low bytes; one byte widens with zeros, four with the sign where the operand is signed, else
--- with zeros (02, M-105)
+-- with zeros (M-105)
 unfoldable pub cast : Bool → ℕ → ℕ → ℕ → ℕ
 cast signed n m a = cond (leb m n) (a % bound m) (cond (eqb n 4 && signed) (widen 4 m a) a)
 
@@ -143,7 +143,7 @@ pub data Status : Type 0 where
   running faulted stuck : Status
   returned : ℕ → ℕ → Status
 
--- `next` is the number of instructions before the next one: 01's number less 1
+-- `next` is the number of instructions before the next one: that one's number less 1
 pub record State : Type 0 where
   pub next : ℕ
   pub vals : Values
@@ -208,7 +208,7 @@ isDivision BinaryOp.Mul = false
 isDivision BinaryOp.Div = true
 isDivision BinaryOp.Rem = true
 
--- where a division ends F by a fault (02, M-106): a zero divisor, and of signed numbers the least by -1, whose quotient n bytes do not hold
+-- where a division ends F by a fault (M-106): a zero divisor, and of signed numbers the least by -1, whose quotient n bytes do not hold
 abbrev pub isBad : Bool → ℕ → ℕ → ℕ → Bool
 isBad dest n a b = eqb b 0 || (dest && (eqb (2 * a) (bound n) && eqb (b + 1) (bound n)))
 

@@ -1,4 +1,5 @@
 -- Auxiliary: what an operation's look-ups find, and its records, made of that. codegen's `simpleOperation`, `floatOperation` and `twoLoads` are these two, by `simple-looked`, `float-looked` and `two-looked` (proofs/Looked).
+use Prim.Native.Nat.{ℕ}
 use mathlib.Core.Bool.{Bool, true, false}
 use mathlib.Core.List.{List, [], _∷_, _++_}
 use Rattle.ir.specs.declared.VarId.{VarId}
@@ -14,6 +15,7 @@ use Rattle.x86.specs.Registers.{RAX, RCX}
 use Rattle.codegen.specs.Context.{Context}
 use Rattle.codegen.specs.Utils.{varSize, convertVar, convertOperand}
 use Rattle.codegen.specs.Instructions.{move}
+use Rattle.codegen.specs.Arithmetic.{dividing}
 use Rattle.utils.specs.Sources.{sourceOf, loadOf}
 use Rattle.operations.specs.declared.Sides.{Sides}
 use Rattle.operations.specs.declared.SidesResult.{SidesResult}
@@ -44,10 +46,16 @@ abbrev pub oneLoadOf : Register → BinOp → BinOp → Sides → List Instructi
 oneLoadOf reg op store t =
     loadOf reg (t .left) (t .size) ∷ Instruction.Binary op (Operand.Reg reg) (t .right) (t .size) ∷ Instruction.Binary store (t .var) (Operand.Reg reg) (t .size) ∷ []
 
--- the one record between two loads and the store
-abbrev pub middleOf : Middle → Size → Instruction
-middleOf Middle.Multiply size = Instruction.ComplexBinary ComplexBinOp.Imul (Operand.Reg RAX) (Operand.Reg RCX) size
-middleOf (Middle.Shift op) size = Instruction.Shift op (Operand.Reg RAX) (Operand.Reg RCX) size
+-- what stands between two loads and the store, and how many records that is
+abbrev pub middleOf : Middle → Size → List Instruction
+middleOf Middle.Multiply size = Instruction.ComplexBinary ComplexBinOp.Imul (Operand.Reg RAX) (Operand.Reg RCX) size ∷ []
+middleOf (Middle.Shift op) size = Instruction.Shift op (Operand.Reg RAX) (Operand.Reg RCX) size ∷ []
+middleOf (Middle.Divide unsigned) size = dividing unsigned size
+
+abbrev pub middleCount : Middle → ℕ
+middleCount Middle.Multiply = 1
+middleCount (Middle.Shift op) = 1
+middleCount (Middle.Divide unsigned) = 2
 
 abbrev pub twoLoadsOf : (Size → List Instruction) → Register → Sides → List Instruction
 twoLoadsOf operation result t =

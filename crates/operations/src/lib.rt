@@ -22,17 +22,16 @@ use x86::enums::Size;
 use x86::enums::UnaryOp;
 use x86::register::Register;
 ghost use mathlib.Core.Path.{_≡_};
-ghost use Prim.Native.Nat.{_+_, _≤_};
-ghost use mathlib.Core.List.{[], _∷_};
+ghost use Prim.Native.Nat.{_+_, _*_, _≤_};
 ghost use lib.ListN.{length};
 ghost use Rattle.cells.specs.Cells.{cells, write};
 ghost use Rattle.ir.specs.Function.{varAt, operandAt};
-ghost use Rattle.x86.specs.Registers.{RAX, RCX};
-ghost use Rattle.x86.specs.Records.{recordOf, recordBytes, listBytes};
-ghost use Rattle.codegen.specs.Arithmetic.{simpleOperation, floatOperation, signInto, dividing, division, multiplication, shift};
+ghost use Rattle.x86.specs.Registers.{RCX};
+ghost use Rattle.x86.specs.Records.{listBytes};
+ghost use Rattle.codegen.specs.Arithmetic.{simpleOperation, floatOperation, twoLoads, signInto, dividing, division, multiplication, shift};
 ghost use Rattle.utils.specs.Answers.{operandSays, lent};
 ghost use Rattle.utils.specs.Makes.{Makes, Ready};
-ghost use Rattle.operations.specs.Loads.{sidesSay, rightOf, lookSides, oneLoadOf, middleOf, twoLoadsOf};
+ghost use Rattle.operations.specs.Loads.{sidesSay, rightOf, lookSides, oneLoadOf, middleOf, middleCount, twoLoadsOf};
 
 // The look-ups find left's source, right, dest's slot and dest's size.
 pub struct Sides {
@@ -47,10 +46,11 @@ pub enum SidesResult {
     Refused(u64),
 }
 
-// Between two loads and the store there is one record, a product or a shift.
+// What is made of RAX and RCX between two loads and the store; of a division it is said whether it is unsigned.
 pub enum Middle {
     Multiply,
     Shift(ShiftOp),
+    Divide(bool),
 }
 
 // Right is found as its source where it is loaded too, or else as an operand of the operation itself.
@@ -175,7 +175,7 @@ pub fn float_operation(
     }
 }
 
-// It gives Cdq for four bytes, else Cqo.
+// RAX's sign goes into RDX by Cdq for four bytes, else by Cqo.
 fn sign_into(size: Size) -> UnaryOp
     ensures { λ r. ⌜ r ≡ signInto size ⌝ }
 {
@@ -232,18 +232,79 @@ fn put_dividing(out: &mut [u8], at: usize, unsigned: bool, size: Size)
     }
 }
 
-fn put_division(out: &mut [u8], at: usize, t: Sides, unsigned: bool, result: Register)
-    requires { ⌜ at + 320 ≤ length (now out) ⌝ }
-    ensures { λ _. ⌜ now (out .exit) ≡ write (now (out .entry)) at (listBytes (twoLoadsOf (dividing unsigned) result t)) ⌝ }
+fn middle_records(middle: Middle) -> usize
+    ensures { λ r. ⌜ r ≡ middleCount middle ⌝ }
+{
+    match middle {
+        Middle::Multiply => 1,
+        Middle::Shift(_) => 1,
+        Middle::Divide(_) => 2,
+    }
+}
+
+fn put_middle(out: &mut [u8], at: usize, middle: Middle, size: Size)
+    requires { ⌜ at + 64 * middleCount middle ≤ length (now out) ⌝ }
+    ensures { λ _. ⌜ now (out .exit) ≡ write (now (out .entry)) at (listBytes (middleOf middle size)) ⌝ }
+{
+    let dst = Operand::Reg(Register::RAX);
+    let src = Operand::Reg(Register::RCX);
+    match middle {
+        Middle::Multiply => put_complex_binary(
+            out,
+            at,
+            Instruction::ComplexBinary {
+                op: ComplexBinOp::Imul,
+                dst,
+                src,
+                size,
+            },
+        ),
+        Middle::Shift(op) => put_shift(out, at, Instruction::Shift { op, dst, src, size }),
+        Middle::Divide(unsigned) => put_dividing(out, at, unsigned, size),
+    }
+}
+
+// Left goes into RAX and right into RCX; behind the operation a register is stored to dest.
+fn put_two_loads(out: &mut [u8], at: usize, t: Sides, middle: Middle, result: Register)
+    requires { ⌜ at + 64 * (middleCount middle + 3) ≤ length (now out) ⌝ }
+    ensures { λ _. ⌜ now (out .exit) ≡ write (now (out .entry)) at (listBytes (twoLoadsOf (middleOf middle) result t)) ⌝ }
 {
     let left = t.left;
     let right = t.right;
     let var = t.var;
     let size = t.size;
+    let behind = 128 + 64 * middle_records(middle);
     put_load(out, at, Register::RAX, left, size);
     put_load(out, at + 64, Register::RCX, right, size);
-    put_dividing(out, at + 128, unsigned, size);
-    put_instruction(out, at + 256, mov(var, Operand::Reg(result), size));
+    put_middle(out, at + 128, middle, size);
+    put_instruction(out, at + behind, mov(var, Operand::Reg(result), size));
+}
+
+fn two_loads(
+    tables: &[u8],
+    offsets: &[u64],
+    s: &[u8],
+    k: usize,
+    middle: Middle,
+    result: Register,
+    out: &mut [u8],
+    at: usize,
+    write: bool,
+) -> CountResult
+    requires { ⌜ k + 13 ≤ cells (now s) ⌝ }
+    requires { ⌜ Ready write (twoLoads (lent (now tables) (now offsets)) (varAt (now s) (k + 2)) (operandAt (now s) (k + 5)) (operandAt (now s) (k + 9)) (middleOf middle) result) at (length (now out)) ⌝ }
+    ensures { λ r. ⌜ Makes write (twoLoads (lent (now (tables .entry)) (now (offsets .entry))) (varAt (now (s .entry)) (k + 2)) (operandAt (now (s .entry)) (k + 5)) (operandAt (now (s .entry)) (k + 9)) (middleOf middle) result) at (now (out .entry)) (now (out .exit)) r ⌝ }
+{
+    match look_sides(tables, offsets, s, k, true) {
+        SidesResult::Are(t) => {
+            let count = middle_records(middle) as u64 + 3;
+            if write {
+                put_two_loads(out, at, t, middle, result);
+            }
+            CountResult::Records(count)
+        }
+        SidesResult::Refused(n) => CountResult::Refused(n),
+    }
 }
 
 // The quotient comes in RAX, the remainder in RDX.
@@ -262,51 +323,8 @@ pub fn division(
     ensures { λ r. ⌜ Makes write (division (lent (now (tables .entry)) (now (offsets .entry))) (varAt (now (s .entry)) (k + 2)) (operandAt (now (s .entry)) (k + 5)) (operandAt (now (s .entry)) (k + 9)) result) at (now (out .entry)) (now (out .exit)) r ⌝ }
 {
     let ty = type_at(s, k + 3);
-    match look_sides(tables, offsets, s, k, true) {
-        SidesResult::Are(t) => {
-            if write {
-                put_division(out, at, t, ty.is_unsigned(), result);
-            }
-            CountResult::Records(5)
-        }
-        SidesResult::Refused(n) => CountResult::Refused(n),
-    }
-}
-
-// RAX and RCX are multiplied, or shifted, into RAX.
-fn put_middle(out: &mut [u8], at: usize, middle: Middle, size: Size)
-    requires { ⌜ at + 64 ≤ length (now out) ⌝ }
-    ensures { λ _. ⌜ now (out .exit) ≡ write (now (out .entry)) at (recordBytes (recordOf (middleOf middle size))) ⌝ }
-{
-    let dst = Operand::Reg(Register::RAX);
-    let src = Operand::Reg(Register::RCX);
-    match middle {
-        Middle::Multiply => put_complex_binary(
-            out,
-            at,
-            Instruction::ComplexBinary {
-                op: ComplexBinOp::Imul,
-                dst,
-                src,
-                size,
-            },
-        ),
-        Middle::Shift(op) => put_shift(out, at, Instruction::Shift { op, dst, src, size }),
-    }
-}
-
-fn put_two_loads(out: &mut [u8], at: usize, t: Sides, middle: Middle)
-    requires { ⌜ at + 256 ≤ length (now out) ⌝ }
-    ensures { λ _. ⌜ now (out .exit) ≡ write (now (out .entry)) at (listBytes (twoLoadsOf (λ size. middleOf middle size ∷ []) RAX t)) ⌝ }
-{
-    let left = t.left;
-    let right = t.right;
-    let var = t.var;
-    let size = t.size;
-    put_load(out, at, Register::RAX, left, size);
-    put_load(out, at + 64, Register::RCX, right, size);
-    put_middle(out, at + 128, middle, size);
-    put_instruction(out, at + 192, mov(var, Operand::Reg(Register::RAX), size));
+    let middle = Middle::Divide(ty.is_unsigned());
+    two_loads(tables, offsets, s, k, middle, result, out, at, write)
 }
 
 pub fn multiplication(
@@ -322,15 +340,8 @@ pub fn multiplication(
     requires { ⌜ Ready write (multiplication (lent (now tables) (now offsets)) (varAt (now s) (k + 2)) (operandAt (now s) (k + 5)) (operandAt (now s) (k + 9))) at (length (now out)) ⌝ }
     ensures { λ r. ⌜ Makes write (multiplication (lent (now (tables .entry)) (now (offsets .entry))) (varAt (now (s .entry)) (k + 2)) (operandAt (now (s .entry)) (k + 5)) (operandAt (now (s .entry)) (k + 9))) at (now (out .entry)) (now (out .exit)) r ⌝ }
 {
-    match look_sides(tables, offsets, s, k, true) {
-        SidesResult::Are(t) => {
-            if write {
-                put_two_loads(out, at, t, Middle::Multiply);
-            }
-            CountResult::Records(4)
-        }
-        SidesResult::Refused(n) => CountResult::Refused(n),
-    }
+    let middle = Middle::Multiply;
+    two_loads(tables, offsets, s, k, middle, Register::RAX, out, at, write)
 }
 
 // The count goes through RCX.
@@ -348,13 +359,6 @@ pub fn shift(
     requires { ⌜ Ready write (shift (lent (now tables) (now offsets)) (varAt (now s) (k + 2)) (operandAt (now s) (k + 5)) (operandAt (now s) (k + 9)) op) at (length (now out)) ⌝ }
     ensures { λ r. ⌜ Makes write (shift (lent (now (tables .entry)) (now (offsets .entry))) (varAt (now (s .entry)) (k + 2)) (operandAt (now (s .entry)) (k + 5)) (operandAt (now (s .entry)) (k + 9)) op) at (now (out .entry)) (now (out .exit)) r ⌝ }
 {
-    match look_sides(tables, offsets, s, k, true) {
-        SidesResult::Are(t) => {
-            if write {
-                put_two_loads(out, at, t, Middle::Shift(op));
-            }
-            CountResult::Records(4)
-        }
-        SidesResult::Refused(n) => CountResult::Refused(n),
-    }
+    let middle = Middle::Shift(op);
+    two_loads(tables, offsets, s, k, middle, Register::RAX, out, at, write)
 }

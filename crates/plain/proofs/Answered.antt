@@ -13,7 +13,7 @@ use Rattle.cells.specs.Cells.{cellAt}
 use Rattle.cells.specs.declared.Cursor.{Cursor}
 use Rattle.layout.specs.declared.Checked.{Checked}
 use Rattle.layout.specs.Layout.{tablesCheck, sheetCheck, Laid}
-use Rattle.layout.proofs.Laws.{sheet-right}
+use Rattle.layout.proofs.Laws.{sheet-right, head-labels}
 use Rattle.ir.specs.Function.{Function, Line, tablesOf, functionOf, bodyFrom}
 use Rattle.ir.proofs.Sheet.{lines-length}
 use Rattle.x86.specs.declared.enums.Instruction.{Instruction}
@@ -98,7 +98,7 @@ module _ (t s : List ℕ) where
 
     few-labels : functionOf s .labels ≤ 256
     unfolding functionOf
-    few-labels = sheet-right s b .head .labels
+    few-labels = head-labels s (sheet-right s b .head)
 
     -- a condition that is broken
     broken : (k : ℕ) → isPlainAt (functionOf s) k ≡ false → isFault t s k ≡ true

@@ -1,4 +1,4 @@
--- Believed: the plain test's answer in the scope's values, no number for yes (01, "Also added: the plain test").
+-- Believed: the plain test's answer, no number for yes (docs/FORMAT.md, "Plain functions").
 use Prim.Native.Nat.{ℕ}
 use mathlib.Core.Option.{Option, none, some}
 use Rattle.plain.specs.declared.Plainness.{Plainness}

@@ -13,6 +13,7 @@ use Rattle.ir.specs.declared.Instr.{Instr}
 use Rattle.x86.specs.declared.enums.Instruction.{Instruction}
 use Rattle.ir.specs.Types.{bytes}
 use Rattle.ir.specs.Function.{Function, Line}
+use Rattle.layout.specs.Limits.{mostLabels, mostInstructions}
 use Rattle.codegen.specs.Generation.{accepted, refused, compiled}
 use Rattle.machine.specs.Steps.{width}
 use Rattle.machine.specs.Plain.{every, isPlainCode, isPlainHead, isShort, isScalarVar, isPlainOperand, isBool, isPlainInstr, labelCount}
@@ -65,18 +66,18 @@ labelOf (Instr.JumpIfNot x l) = l
 labelOf (Instr.Return x) = 0
 labelOf Instr.Comment = 0
 
--- no label is beyond the limit of 256 (01, "Limits")
+-- no label is beyond the limit
 unfoldable pub areNamed : List Line → Bool
-areNamed is = every (λ i. ltb (labelOf (i .instr)) 256) is
+areNamed is = every (λ i. ltb (labelOf (i .instr)) mostLabels) is
 
 -- how often each label stands among lines
 pub record Counts (lines : List Line) (counts : List ℕ) : Type 0 where
-  pub long : length counts ≡ 256
-  pub each : (l : ℕ) → l < 256 → getD counts l 0 ≡ labelCount l lines
+  pub long : length counts ≡ mostLabels
+  pub each : (l : ℕ) → l < mostLabels → getD counts l 0 ≡ labelCount l lines
 
 -- there is room for more instructions
 pub record Few (counts : List ℕ) : Type 0 where
-  pub each : (l : ℕ) → l < 256 → getD counts l 0 ≤ 4096
+  pub each : (l : ℕ) → l < mostLabels → getD counts l 0 ≤ mostInstructions
 
 abbrev pub oneMore : Instr → List ℕ → List ℕ
 oneMore (Instr.Copy d x) counts = counts
@@ -85,7 +86,7 @@ oneMore (Instr.Binary d op x y) counts = counts
 oneMore (Instr.Cast d x) counts = counts
 oneMore (Instr.Zero d) counts = counts
 oneMore (Instr.Call d symbol count) counts = counts
-oneMore (Instr.Label l) counts = cond (leb 256 l) counts (set counts l (getD counts l 0 + 1))
+oneMore (Instr.Label l) counts = cond (leb mostLabels l) counts (set counts l (getD counts l 0 + 1))
 oneMore (Instr.Jump l) counts = counts
 oneMore (Instr.JumpIfNot x l) counts = counts
 oneMore (Instr.Return x) counts = counts

@@ -6,6 +6,7 @@ use ir::Instr;
 use ir::read::behind;
 use ir::read::body_from;
 use ir::read::instr_at;
+use layout::limits::MOST_LABELS;
 ghost use mathlib.Core.Path.{_≡_};
 ghost use mathlib.Core.Bool.{true};
 ghost use mathlib.Core.List.{[]};
@@ -24,7 +25,7 @@ fn count_label(counts: &mut [u16; 256], instr: Instr)
     let Instr::Label(l) = instr else {
         return;
     };
-    if 256 <= l {
+    if MOST_LABELS <= l {
         return;
     }
     let k = l as usize;

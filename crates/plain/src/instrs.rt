@@ -20,6 +20,7 @@ ghost use lib.Dec.{eqb, leb};
 ghost use lib.ListN.{getD};
 ghost use Rattle.cells.specs.Cells.{cells};
 ghost use Rattle.ir.specs.Function.{Line, functionOf, paramsFrom, binaryOp};
+ghost use Rattle.layout.specs.Limits.{mostLabels};
 ghost use Rattle.machine.specs.Steps.{width};
 ghost use Rattle.machine.specs.Plain.{isOneByte, isPlainBinary, isPlainCast, isPlainInstr};
 ghost use Rattle.plain.specs.Parts.{isSame, isPlainMove, isPlainPair, isWide, isCondition, labelOf, Counts};
@@ -151,7 +152,7 @@ fn is_plain_conversion(sheet: &[u8], d: VarId, x: Operand) -> bool
 
 // The label `l` has not stood.
 fn is_new(counts: &[u16; 256], l: u64) -> bool
-    requires { ⌜ l < 256 ⌝ }
+    requires { ⌜ l < mostLabels ⌝ }
     ensures { λ r. ⌜ r ≡ eqb (getD (now (counts .entry)) l 0) 0 ⌝ }
 {
     let k = l as usize;
@@ -160,7 +161,7 @@ fn is_new(counts: &[u16; 256], l: u64) -> bool
 
 // The label `l` stands.
 fn stands(counts: &[u16; 256], l: u64) -> bool
-    requires { ⌜ l < 256 ⌝ }
+    requires { ⌜ l < mostLabels ⌝ }
     ensures { λ r. ⌜ r ≡ leb 1 (getD (now (counts .entry)) l 0) ⌝ }
 {
     let k = l as usize;
@@ -182,7 +183,7 @@ fn is_condition(sheet: &[u8], x: Operand) -> bool
 fn is_plain_branch(sheet: &[u8], counts: &[u16; 256], x: Operand, l: u64) -> bool
     requires { ⌜ paramsFrom (now sheet) ≤ cells (now sheet) ⌝ }
     requires { ⌜ Counts (functionOf (now sheet) .body) (now counts) ⌝ }
-    requires { ⌜ l < 256 ⌝ }
+    requires { ⌜ l < mostLabels ⌝ }
     ensures { λ r. ⌜ r ≡ isPlainInstr (functionOf (now (sheet .entry))) [] (Instr.JumpIfNot x l) ⌝ }
 {
     if is_condition(sheet, x) {
@@ -196,7 +197,7 @@ fn is_plain_branch(sheet: &[u8], counts: &[u16; 256], x: Operand, l: u64) -> boo
 pub fn is_plain_instr(sheet: &[u8], counts: &[u16; 256], before: &[u16; 256], instr: Instr) -> bool
     requires { ⌜ paramsFrom (now sheet) ≤ cells (now sheet) ⌝ }
     requires { ⌜ Counts (functionOf (now sheet) .body) (now counts) ⌝ }
-    requires { ⌜ labelOf instr < 256 ⌝ }
+    requires { ⌜ labelOf instr < mostLabels ⌝ }
     ensures { λ r. ⌜ ((lines : List Line) → Counts lines (now (before .entry)) → r ≡ isPlainInstr (functionOf (now (sheet .entry))) lines instr) ⌝ }
 {
     match instr {

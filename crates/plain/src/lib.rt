@@ -1,4 +1,4 @@
-// This is the plain test where the lowering's answer is known (01, "Plain integer functions"): the conditions on head and body, and the first fault.
+// This is the plain test where the lowering's answer is known (docs/FORMAT.md, "Plain functions"): the conditions on head and body, and the first fault.
 mod body;
 mod head;
 mod instrs;

@@ -5,8 +5,8 @@ use cells::Cell;
 use cells::Cursor;
 use cells::cell_at;
 use cells::put_word;
-use engine::gilthoren_lower;
-use engine::gilthoren_plain;
+use engine::lower::gilthoren_lower;
+use engine::plain_test::gilthoren_plain;
 ghost use mathlib.Core.Path.{_≡_};
 ghost use lib.ListN.{length};
 
@@ -145,35 +145,30 @@ fn slice_in(list: &[u8], at: usize, out: &mut [u8]) -> Read {
     }
 }
 
-fn print_line(index: u64, n: u64, place: u64) {
-    io::print_decimal(1, index);
+fn print_pair(a: u64, b: u64) {
+    io::print_decimal(1, a);
     io::write_all(1, b" ");
-    io::print_decimal(1, n);
-    io::write_all(1, b" ");
-    io::print_decimal(1, place);
+    io::print_decimal(1, b);
     io::write_all(1, b"\n");
 }
 
-// The counts are of accepted cases, the refusals 1 to 9, records, plain functions and differences.
-const RECORDS: usize = 10;
+// The answers are counted by their numbers, as far as these are below RECORDS; then come the counts of records, of plain functions and of differences.
+const RECORDS: usize = 29;
 
-const PLAIN: usize = 11;
+const PLAIN: usize = 30;
 
-const DIFFERENCES: usize = 12;
+const DIFFERENCES: usize = 31;
 
-fn count(counts: &mut [u64; 16], k: usize, by: u64) {
-    if k < 16 {
+fn count(counts: &mut [u64; 32], k: usize, by: u64) {
+    if k < 32 {
         counts[k] = std::num::wrapping_add_u64(counts[k], by);
     }
 }
 
 // It writes and counts a difference: 1 is the answer, 2 the records, 3 another lent byte, 4 the plain test.
-fn difference(index: u64, what: u64, counts: &mut [u64; 16]) {
+fn difference(index: u64, what: u64, counts: &mut [u64; 32]) {
     io::write_all(1, b"difference ");
-    io::print_decimal(1, index);
-    io::write_all(1, b" ");
-    io::print_decimal(1, what);
-    io::write_all(1, b"\n");
+    print_pair(index, what);
     count(counts, DIFFERENCES, 1);
 }
 
@@ -234,7 +229,7 @@ fn records_in(
     index: u64,
     n: usize,
     records: &[u8],
-    counts: &mut [u64; 16],
+    counts: &mut [u64; 32],
 ) -> Place {
     if records.len() < EDGE {
         return Place::Bad;
@@ -268,7 +263,7 @@ fn held(
     tables: &[u8],
     sheet: &[u8],
     records: &mut [u8],
-    counts: &mut [u64; 16],
+    counts: &mut [u64; 32],
 ) -> Place {
     if records.len() < 2 * EDGE {
         return Place::Bad;
@@ -277,7 +272,9 @@ fn held(
     let end = records.len() - EDGE;
     let mut found = 0;
     let number = gilthoren_lower(tables, sheet, &mut records[EDGE..end], &mut found);
-    count(counts, number as usize, 1);
+    if number < RECORDS as u64 {
+        count(counts, number as usize, 1);
+    }
     if !(number == refusal && found == place) {
         difference(index, 1, counts);
     }
@@ -296,7 +293,7 @@ fn lowering(
     tables: &[u8],
     sheet: &[u8],
     records: &mut [u8],
-    counts: &mut [u64; 16],
+    counts: &mut [u64; 32],
 ) -> Place {
     let Read::Number(room, second) = number(list, at) else {
         return Place::Bad;
@@ -353,7 +350,7 @@ fn plainness(
     index: u64,
     tables: &[u8],
     sheet: &[u8],
-    counts: &mut [u64; 16],
+    counts: &mut [u64; 32],
 ) -> Place {
     let Read::Number(n, first) = number(list, at) else {
         return Place::Bad;
@@ -384,7 +381,7 @@ fn answer(
     tables: &[u8],
     sheet: &[u8],
     records: &mut [u8],
-    counts: &mut [u64; 16],
+    counts: &mut [u64; 32],
 ) -> Place {
     match lowering(list, at, index, tables, sheet, records, counts) {
         Place::At(faults) => plainness(list, faults, index, tables, sheet, counts),
@@ -400,7 +397,7 @@ fn case(
     tables: &mut [u8],
     sheet: &mut [u8],
     records: &mut [u8],
-    counts: &mut [u64; 16],
+    counts: &mut [u64; 32],
 ) -> Place {
     let Read::Number(t, second) = slice_in(list, at, tables) else {
         return Place::Bad;
@@ -433,7 +430,7 @@ fn cases(
     tables: &mut [u8],
     sheet: &mut [u8],
     records: &mut [u8],
-    counts: &mut [u64; 16],
+    counts: &mut [u64; 32],
 ) -> bool {
     let mut k = at;
     let mut index = 0;
@@ -486,7 +483,7 @@ fn replay(list: &[u8]) {
     let mut tables = [0u8; 4096];
     let mut sheet = sheet_room();
     let mut records = records_room();
-    let mut counts = [0u64; 16];
+    let mut counts = [0u64; 32];
     let Read::Number(n, at) = header(list) else {
         malformed();
         return;
@@ -506,18 +503,27 @@ fn replay(list: &[u8]) {
     }
 }
 
-fn print_counts(n: u64, counts: &[u64; 16]) {
+// It writes each refusal that has come, and how often.
+fn print_refusals(counts: &[u64; 32]) {
+    let mut k = 1;
+    while k < RECORDS {
+        let times = counts[k];
+        if 0 < times {
+            io::write_all(1, b"refused ");
+            print_pair(k as u64, times);
+        }
+        k += 1;
+    }
+}
+
+fn print_counts(n: u64, counts: &[u64; 32]) {
     io::print_decimal(1, n);
     io::write_all(1, b" cases, accepted ");
     io::print_decimal(1, counts[0]);
     io::write_all(1, b", records ");
     io::print_decimal(1, counts[RECORDS]);
-    io::write_all(1, b"\nrefused ");
-    print_line(counts[1], counts[2], counts[3]);
-    io::write_all(1, b"refused ");
-    print_line(counts[4], counts[5], counts[6]);
-    io::write_all(1, b"refused ");
-    print_line(counts[7], counts[8], counts[9]);
+    io::write_all(1, b"\n");
+    print_refusals(counts);
     io::write_all(1, b"plain ");
     io::print_decimal(1, counts[PLAIN]);
     io::write_all(1, b", differences ");

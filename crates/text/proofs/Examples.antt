@@ -1,4 +1,4 @@
--- Texts that the checker evaluates: numbers at their edges, and a line of 01's listing (01, "The listing program").
+-- Texts that the checker evaluates: numbers at their edges, and a line of the listing example (docs/FORMAT.md, "The listing program").
 use Prim.Native.Nat.{_^_, _-_}
 use mathlib.Core.Path.{_≡_, refl}
 use mathlib.Core.List.{[], _∷_}
@@ -21,7 +21,7 @@ least-text : signed (2 ^ 63) ≡ 45 ∷ 57 ∷ 50 ∷ 50 ∷ 51 ∷ 51 ∷ 55 �
 unfolding digits signed
 least-text = refl
 
--- `0 0 5 -4 1 7 4 0`, the fourth record of 01's listing
+-- `0 0 5 -4 1 7 4 0`, the fourth record of the listing example
 fourth-line : numbersLine (0 ∷ 0 ∷ 5 ∷ minus 4 ∷ 1 ∷ 7 ∷ 4 ∷ 0 ∷ []) ≡
     48 ∷ 32 ∷ 48 ∷ 32 ∷ 53 ∷ 32 ∷ 45 ∷ 52 ∷ 32 ∷ 49 ∷ 32 ∷ 55 ∷ 32 ∷ 52 ∷ 32 ∷ 48 ∷ 10 ∷ []
 unfolding digits signed numbersLine

@@ -1,4 +1,4 @@
--- Believed: the lines of the listing program's text, as ASCII codes (01, "The listing program").
+-- Believed: the lines of the listing program's text, as ASCII codes (docs/FORMAT.md, "The listing program").
 use Prim.Native.Nat.{ℕ, zero, suc, _+_, _-_, _/_, _%_, _^_, _≤_}
 use mathlib.Core.List.{List, [], _∷_, _++_}
 use mathlib.Core.Bool.{cond}
@@ -7,41 +7,41 @@ use mathlib.Core.Path.{_≡_}
 use lib.ListN.{length, take}
 use Rattle.cells.specs.Cells.{write}
 
--- a number in decimal, the highest digit first, in at most k digits: 48 is `0` (01, "The listing program": "numbers")
+-- a number in decimal, the highest digit first, in at most k digits: 48 is `0`
 unfoldable pub digits : ℕ → ℕ → List ℕ
 digits zero n = []
 digits (suc k) n = cond (ltb n 10) ((48 + n) ∷ []) (digits k (n / 10) ++ ((48 + n % 10) ∷ []))
 
--- a number below 10 ^ 20, as every number of 64 bits is (01, "The listing program": "numbers")
+-- a number below 10 ^ 20, as every number of 64 bits is
 abbrev pub decimal : ℕ → List ℕ
 decimal n = digits 20 n
 
--- a cell, a two's complement pattern: 45 is `-` (01, "The listing program": 2 ^ 64 - 4 is `-4`)
+-- a cell, a two's complement pattern: 45 is `-`, and 2 ^ 64 - 4 is `-4`
 unfoldable pub signed : ℕ → List ℕ
 signed v = cond (ltb v (2 ^ 63)) (decimal v) (45 ∷ decimal (2 ^ 64 - v))
 
--- numbers as cells have them, a blank (32) behind each but the last, and a new line (10) behind that (01, "The listing program": "eight numbers")
+-- numbers as cells have them, a blank (32) behind each but the last, and a new line (10) behind that
 unfoldable pub numbersLine : List ℕ → List ℕ
 numbersLine [] = []
 numbersLine (v ∷ vs) = signed (v % 2 ^ 64) ++ (cond (eqb (length vs) 0) 10 32 ∷ numbersLine vs)
 
--- `ok ` (01, "The listing program")
+-- `ok `
 abbrev pub okWord : List ℕ
 okWord = 111 ∷ 107 ∷ 32 ∷ []
 
--- `ok ` and the record count (01, "The listing program")
+-- `ok ` and the record count
 unfoldable pub okLine : ℕ → List ℕ
 okLine n = okWord ++ (decimal n ++ (10 ∷ []))
 
--- `refused ` (01, "The listing program")
+-- `refused `
 abbrev pub refusedWord : List ℕ
 refusedWord = 114 ∷ 101 ∷ 102 ∷ 117 ∷ 115 ∷ 101 ∷ 100 ∷ 32 ∷ []
 
--- `refused `, number and place (01, "The listing program")
+-- `refused `, number and place
 unfoldable pub refusedLine : ℕ → ℕ → List ℕ
 refusedLine n place = refusedWord ++ (decimal n ++ (32 ∷ (decimal place ++ (10 ∷ []))))
 
--- `too long` (01, "The listing program")
+-- `too long`
 abbrev pub tooLongLine : List ℕ
 tooLongLine = 116 ∷ 111 ∷ 111 ∷ 32 ∷ 108 ∷ 111 ∷ 110 ∷ 103 ∷ 10 ∷ []
 

@@ -8,13 +8,14 @@ use native.Mathlib.Omega.{arith}
 use borrow.Author.Tests.{ne-eqb, le-ltb}
 use denote.Enum.Declared.{tagOf}
 use types.Run.{OneOf, miss}
+use Rattle.cells.specs.Refusals.{noEntry, oddWidth}
 use Rattle.ir.specs.Types.{ok, refused, _>>=_}
 use Rattle.x86.proofs.enums.Operand as elfOperand
 use Rattle.x86.specs.declared.enums.Operand.{Operand}
 use Rattle.codegen.specs.Context.{Context, floatAt, floatShort}
 use Rattle.codegen.specs.Utils.{sizeFrom, isConstant}
 
-pub odd-width : (n : ℕ) → (n ≡ 1 → ⊥) → (n ≡ 2 → ⊥) → (n ≡ 4 → ⊥) → (n ≡ 8 → ⊥) → refused 6 ≡ sizeFrom n
+pub odd-width : (n : ℕ) → (n ≡ 1 → ⊥) → (n ≡ 2 → ⊥) → (n ≡ 4 → ⊥) → (n ≡ 8 → ⊥) → refused oddWidth ≡ sizeFrom n
 unfolding sizeFrom
 odd-width n h1 h2 h4 h8 = rw (ne-eqb n 1 h1, ne-eqb n 2 h2, ne-eqb n 4 h4, ne-eqb n 8 h8)
 
@@ -34,6 +35,6 @@ pub float-place : (ctx : Context) (k : ℕ) → floatAt ctx k ≡ (floatShort ct
 unfolding floatAt floatShort
 float-place ctx k = go (ltb k (ctx .tables .floats))
   where
-    go : (b : Bool) → cond b (ok k) (refused 5) ≡ (cond b (ok (ctx .tables .short k)) (refused 5) >>= λ short. ok k)
+    go : (b : Bool) → cond b (ok k) (refused noEntry) ≡ (cond b (ok (ctx .tables .short k)) (refused noEntry) >>= λ short. ok k)
     go true = refl
     go false = refl

@@ -6,6 +6,7 @@ use mathlib.Core.List.{List, [], _∷_}
 use denote.Enum.Declared.{tagOf}
 use types.Run.{OneOf, miss}
 use lib.Dec.{eqb, ltb}
+use Rattle.cells.specs.Refusals.{noEntry, oddWidth}
 use Rattle.ir.proofs.Operand as irOperand
 use Rattle.ir.specs.declared.VarId.{VarId}
 use Rattle.ir.specs.declared.Operand.{Operand as IrOp}
@@ -18,7 +19,7 @@ use Rattle.x86.specs.Registers.{rbpPlus, ripString, ripFloat}
 use Rattle.codegen.specs.Context.{Context, displacement, stringAt, floatAt, floatShort}
 use Rattle.codegen.specs.Utils.{sizeFrom, varSize, convertVar, convertOperand, sizeOr, ownSize, loadFrom, loadString, loadValue, loadOperand}
 use Rattle.codegen.proofs.Results.{Yields, never, yields, refuses, bind, any}
-use Rattle.utils.specs.Sources.{sourceOf, HasOwnSize, isString, loadOf}
+use Rattle.utils.specs.Sources.{sourceOf, floatSizeOf, ownSizeOf, isString, loadOf}
 use Rattle.utils.specs.Makes.{listed, alone}
 use Rattle.utils.proofs.Rest.{float-place}
 
@@ -35,8 +36,7 @@ not-data ctx IrOp.Null h = refl
 -- ---- an operand's own size
 
 -- of an operand that is no float constant
-pub not-float : (ctx : Context) (x : IrOp) → OneOf (0 ∷ 1 ∷ 3 ∷ 4 ∷ 5 ∷ 6 ∷ []) (tagOf irOperand.the-type x) → operandSize x ≡ ownSize ctx x
-unfolding ownSize
+pub not-float : (ctx : Context) (x : IrOp) → OneOf (0 ∷ 1 ∷ 3 ∷ 4 ∷ 5 ∷ 6 ∷ []) (tagOf irOperand.the-type x) → operandSize x ≡ ownSizeOf ctx x
 not-float ctx (IrOp.Var v) h = refl
 not-float ctx (IrOp.Int n s u) h = refl
 not-float ctx (IrOp.Float k) h = absurd (miss (0 ∷ 1 ∷ 3 ∷ 4 ∷ 5 ∷ 6 ∷ []) 2 tt h)
@@ -45,19 +45,21 @@ not-float ctx (IrOp.Address v) h = refl
 not-float ctx (IrOp.DataAddress k) h = refl
 not-float ctx IrOp.Null h = refl
 
--- of a float constant, as its table has it
-pub float-own : (ctx : Context) (k : ℕ) (short : Bool) → floatShort ctx k ≡ ok short → HasOwnSize ctx (IrOp.Float k) (cond short Size.U32 Size.U64)
-unfolding floatShort ownSize
-float-own ctx k short e src h = go (ltb k (ctx .tables .floats)) e
+-- of an operand that has a source
+pub own-found : (ctx : Context) (x : IrOp) {src : Operand} → sourceOf ctx x ≡ ok src → ownSizeOf ctx x ≡ ownSize ctx x
+unfolding ownSize convertOperand floatAt floatShort
+own-found ctx (IrOp.Var v) h = refl
+own-found ctx (IrOp.Int n s u) h = refl
+own-found ctx (IrOp.Float k) {src} h = go (ltb k (ctx .tables .floats)) h
   where
-    go : (b : Bool) → cond b (ok (ctx .tables .short k)) (refused 5) ≡ ok short → cond short Size.U32 Size.U64 ≡ cond (ctx .tables .short k) Size.U32 Size.U64
-    go true e = cc
-    go false e = absurd (never e)
-
--- one beyond its table has no source
-pub float-beyond : (ctx : Context) (k n : ℕ) (z : Size) → floatShort ctx k ≡ refused n → HasOwnSize ctx (IrOp.Float k) z
-unfolding convertOperand
-float-beyond ctx k n z e src h = absurd (never (rw (float-place ctx k, e) at h))
+    go : (b : Bool) → (cond b (ok k) (refused noEntry) >>= λ f. ok (ripFloat f)) ≡ ok src
+        → floatSizeOf (cond b (ok (ctx .tables .short k)) (refused noEntry)) ≡ cond (ctx .tables .short k) Size.U32 Size.U64
+    go true h = refl
+    go false h = absurd (never h)
+own-found ctx (IrOp.Bool b) h = refl
+own-found ctx (IrOp.Address v) h = refl
+own-found ctx (IrOp.DataAddress k) h = refl
+own-found ctx IrOp.Null h = refl
 
 -- ---- THE LADDER: a list that is made behind look-ups is made of what they find. A rung for each look-up, in the Rust's order
 
@@ -92,7 +94,7 @@ pub sizes-given : (n : ℕ) → Yields (sizeFrom n) Given
 unfolding sizeFrom
 sizes-given n = go (eqb n 1) (eqb n 2) (eqb n 4) (eqb n 8)
   where
-    go : (a b c d : Bool) → Yields (cond a (ok Size.U8) (cond b (ok Size.U16) (cond c (ok Size.U32) (cond d (ok Size.U64) (refused 6))))) Given
+    go : (a b c d : Bool) → Yields (cond a (ok Size.U8) (cond b (ok Size.U16) (cond c (ok Size.U32) (cond d (ok Size.U64) (refused oddWidth))))) Given
     go true b c d = yields (λ z. refl)
     go false true c d = yields (λ z. refl)
     go false false true d = yields (λ z. refl)

@@ -6,6 +6,9 @@
 pub mod kinds;
 pub mod slots;
 
+use cells::refusals::NO_ENTRY;
+use cells::refusals::NO_LOWERING;
+use cells::refusals::ODD_WIDTH;
 use ir::Operand as IrOp;
 use ir::VarId;
 use ir::read::operand_at;
@@ -35,8 +38,9 @@ ghost use Rattle.ir.specs.Answers.{numberSays};
 ghost use Rattle.codegen.specs.Context.{displacement, stringAt, floatShort};
 ghost use Rattle.codegen.specs.Utils.{sizeFrom, varSize, convertVar, convertOperand, isOneByte, isConstant, loadOperand};
 ghost use Rattle.codegen.specs.Instructions.{move};
+ghost use Rattle.codegen.specs.Frame.{storeOf};
 ghost use Rattle.utils.specs.Answers.{sizeSays, operandSays, boolSays, lent};
-ghost use Rattle.utils.specs.Sources.{sourceOf, HasOwnSize, isString, loadOf};
+ghost use Rattle.utils.specs.Sources.{sourceOf, floatSizeOf, ownSizeOf, isString, loadOf};
 ghost use Rattle.utils.specs.Makes.{alone, Makes, Ready};
 
 // Each has a truth value, a size, an operand or a number of records; or the number of a refusal.
@@ -69,7 +73,7 @@ pub fn size_from(n: u64) -> SizeResult
         2 => SizeResult::Is(Size::U16),
         4 => SizeResult::Is(Size::U32),
         8 => SizeResult::Is(Size::U64),
-        _ => SizeResult::Refused(6),
+        _ => SizeResult::Refused(ODD_WIDTH),
     }
 }
 
@@ -91,7 +95,7 @@ pub fn displacement(tables: &[u8], offsets: &[u64], id: u64) -> Number
         let k = id as usize;
         Number::Is(negated(offsets[k]))
     } else {
-        Number::Refused(5)
+        Number::Refused(NO_ENTRY)
     }
 }
 
@@ -115,7 +119,7 @@ fn string_at(tables: &[u8], offsets: &[u64], id: u64) -> Number
             return Number::Is(id);
         }
     }
-    Number::Refused(5)
+    Number::Refused(NO_ENTRY)
 }
 
 // It is `ctx.floats[id].1`: it says whether a float constant is short.
@@ -129,7 +133,7 @@ pub fn float_short(tables: &[u8], offsets: &[u64], id: u64) -> BoolResult
             return BoolResult::Is(cells::cell_at(tables, k + 1) == 1);
         }
     }
-    BoolResult::Refused(5)
+    BoolResult::Refused(NO_ENTRY)
 }
 
 // `convert_operand` of a variable is its slot.
@@ -165,8 +169,8 @@ pub fn convert_operand(tables: &[u8], offsets: &[u64], op: IrOp) -> OperandResul
                 OperandResult::Is(Operand::Imm(0))
             }
         }
-        IrOp::Address(_) => OperandResult::Refused(7),
-        IrOp::DataAddress(_) => OperandResult::Refused(7),
+        IrOp::Address(_) => OperandResult::Refused(NO_LOWERING),
+        IrOp::DataAddress(_) => OperandResult::Refused(NO_LOWERING),
         IrOp::Null => OperandResult::Is(Operand::Imm(0)),
     }
 }
@@ -194,9 +198,9 @@ pub fn source(tables: &[u8], offsets: &[u64], op: IrOp) -> OperandResult
     convert_operand(tables, offsets, op)
 }
 
-// A float constant has its size by its table.
+// A float constant has its size by its table, and eight bytes where it is in none.
 fn float_size(tables: &[u8], offsets: &[u64], id: u64) -> Size
-    ensures { λ r. ⌜ HasOwnSize (lent (now (tables .entry)) (now (offsets .entry))) (IrOp.Float id) r ⌝ }
+    ensures { λ r. ⌜ r ≡ floatSizeOf (floatShort (lent (now (tables .entry)) (now (offsets .entry))) id) ⌝ }
 {
     match float_short(tables, offsets, id) {
         BoolResult::Is(short) => { if short { Size::U32 } else { Size::U64 } }
@@ -204,9 +208,9 @@ fn float_size(tables: &[u8], offsets: &[u64], id: u64) -> Size
     }
 }
 
-// An operand has this size where none is given. It is asked for behind the look-up of the source: a float constant that has none has no size.
+// An operand has this size where none is given. It is asked for behind the look-up of the source, which refuses a float constant that is in no table.
 pub fn own_size(tables: &[u8], offsets: &[u64], op: IrOp) -> Size
-    ensures { λ r. ⌜ HasOwnSize (lent (now (tables .entry)) (now (offsets .entry))) op r ⌝ }
+    ensures { λ r. ⌜ r ≡ ownSizeOf (lent (now (tables .entry)) (now (offsets .entry))) op ⌝ }
 {
     if let IrOp::Float(id) = op {
         return float_size(tables, offsets, id);
@@ -245,7 +249,7 @@ pub fn source_at(tables: &[u8], offsets: &[u64], s: &[u8], k: usize) -> OperandR
 
 pub fn own_size_at(tables: &[u8], offsets: &[u64], s: &[u8], k: usize) -> Size
     requires { ⌜ k + 4 ≤ cells (now s) ⌝ }
-    ensures { λ r. ⌜ HasOwnSize (lent (now (tables .entry)) (now (offsets .entry))) (operandAt (now (s .entry)) k) r ⌝ }
+    ensures { λ r. ⌜ r ≡ ownSizeOf (lent (now (tables .entry)) (now (offsets .entry))) (operandAt (now (s .entry)) k) ⌝ }
 {
     own_size(tables, offsets, operand_at(s, k))
 }
@@ -291,6 +295,13 @@ fn is_constant(src: Operand) -> bool
     } else {
         false
     }
+}
+
+// A float is stored by StoreF, all else by Mov.
+pub fn store_op(float: bool) -> BinOp
+    ensures { λ r. ⌜ r ≡ storeOf float ⌝ }
+{
+    if float { BinOp::StoreF } else { BinOp::Mov }
 }
 
 pub fn mov(dst: Operand, src: Operand, size: Size) -> Instruction

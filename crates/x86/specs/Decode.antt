@@ -1,4 +1,4 @@
--- Believed: records read back: from eight cells to the instruction that has them, and from bytes to a list (01, "Record").
+-- Believed: records read back: from eight cells to the instruction that has them, and from bytes to a list (docs/FORMAT.md, "Records").
 use Prim.Native.Nat.{ℕ, zero, suc, _+_, _-_, _^_, _<_}
 use mathlib.Core.List.{List, [], _∷_, map}
 use mathlib.Core.Option.{Option, none, some, Option·getD}

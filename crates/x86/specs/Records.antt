@@ -1,4 +1,4 @@
--- Believed: the eight cells of a record, and its 64 bytes (01, "Record"). Codes are positions in Krc's enums (elf/instructions/enums.rs).
+-- Believed: the eight cells of a record, and its 64 bytes (docs/FORMAT.md, "Records"). Codes are positions in Krc's enums (elf/instructions/enums.rs).
 use Prim.Native.Nat.{ℕ, _+_, _*_}
 use mathlib.Core.List.{List, [], _∷_, _++_}
 use Rattle.cells.specs.Cells.{bytesOf}

@@ -132,7 +132,7 @@ impl ConditionCode {
     }
 }
 
-// These are all of Krc's operations, so that a code is a position and needs no table.
+// These are the first nineteen of Krc's twenty-five operations, up to the last that the lowering names, so that a code is a position and needs no table.
 pub enum BinOp {
     Mov,
     Xchg,

@@ -1,6 +1,6 @@
 //! M-112: arguments and parameters beyond the registers.
 //!
-//! 02: "With k arguments beyond the registers, k at least 1, in list order from 0, the call first lowers RSP by the least
+//! The request: "With k arguments beyond the registers, k at least 1, in list order from 0, the call first lowers RSP by the least
 //! multiple of 16 not below 8k. Each such argument j is loaded into RAX by `load_operand` with no size given and stored, eight
 //! bytes, at RSP plus 8j; tag 8 is an address from RSP. The register arguments follow as before, their panics too. RSP is raised
 //! again after the call, before dest is stored. RSP is lowered by Sub and raised by Add, of an immediate with no size. The

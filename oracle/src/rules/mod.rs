@@ -1,4 +1,4 @@
-//! What requests of 02 take from Krc's authority: each rule is a piece of its own, written from 02. `apply` sets cells in Krc's own
+//! What requests (docs/landings) take from Krc's authority: each rule is a piece of its own, written from the request. `apply` sets cells in Krc's own
 //! list; `excess` puts records around it.
 
 pub mod excess;

@@ -1,6 +1,6 @@
 //! M-102: a short float constant is read at its size.
 //!
-//! 02: "An operand that is a short float constant now has size 4 when none is given, in returns and in arguments. Against the
+//! The request: "An operand that is a short float constant now has size 4 when none is given, in returns and in arguments. Against the
 //! Rust, the size cell of these loads is left out and held to this rule instead."
 
 use crate::sheet::{Instr, Operand, Sheet, Tables};

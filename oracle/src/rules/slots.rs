@@ -1,6 +1,6 @@
 //! M-110: slots on their own width.
 //!
-//! 02: "A variable's offset is now the least multiple of its element's width not below the previous offset plus its size;
+//! The request: "A variable's offset is now the least multiple of its element's width not below the previous offset plus its size;
 //! empty arrays follow the same rule, and a variable with no width keeps the previous offset." The frame "is the least
 //! multiple of 16 not below the last offset". "Displacements and frame are held to this rule; all other cells as before."
 //! The offsets and the frame are `Sheet::offsets` and `Sheet::frame`.

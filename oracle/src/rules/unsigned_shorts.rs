@@ -1,6 +1,6 @@
 //! M-105: unsigned shorts widen with zeros.
 //!
-//! 02: "The rule language now says that an unsigned short, variable or constant, widens with zeros. The list is a four-byte load
+//! The request: "The rule language now says that an unsigned short, variable or constant, widens with zeros. The list is a four-byte load
 //! into RAX and an eight-byte store. [..] these casts are held to the new rule in place of the Rust's Movsxd."
 
 use crate::sheet::*;

@@ -10,10 +10,12 @@ behind-requires : tie.Need-behind-requires
 behind-requires c κs = right-behind _ _ (c .before .before .pre (c .if1 .taken))
 
 returns : tie.Need-returns
-returns c = ap (λ k. Checked.Behind (cursor k)) (c .behind .ensures) ∙ sym (c .before .before .before .pre (c .before .if1 .taken))
+returns c =
+    let writes = c .before .before in
+    ap (λ k. Checked.Behind (cursor k)) (c .new .ensures ∙ c .before .behind .ensures) ∙ sym (writes .before .before .pre (writes .if1 .taken))
 
 pub next-line-spec : {M : Type 1} → statement M
 next-line-spec =
     tie.close
     (tie.spec
-    behind-requires returns (λ c κs. search needs) (λ c. search needs))
+    behind-requires (λ c κs. search needs) returns (λ c κs. search needs) (λ c. search needs))

@@ -3,10 +3,10 @@ use native.Mathlib.Omega.{arith}
 use Prim.Native.Nat.{_*_}
 use Rattle.cells.specs.Cells.{cellAt}
 use Rattle.layout.specs.Layout.{instrsCheck}
+use Rattle.layout.proofs.Laws.{head-header}
 use Rattle.utils.specs.Answers.{lent}
 use Rattle.utils.proofs.Made.{same-long}
 use Rattle.body.specs.Body.{bodyOf}
-use Rattle.body.proofs.Heads.{head-header}
 use Rattle.body.proofs.Running.{Walking, none-walked, laid-all, right-there, right-behind, right-few, walked-right, walked-ready, walked-few, walked-more, walked-refused, walked-unwritten, walked-wrong, wrong-unwritten, all-walked, all-written}
 use borrow.Author.Needs.{needs}
 use Rattle.body.proofs.walk_body.Statement.{statement}

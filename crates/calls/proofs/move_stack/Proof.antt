@@ -10,13 +10,17 @@ returns : tie.Need-returns
 returns c = none-made (rw (c .if1 .taken) refl)
 
 one-record-requires : tie.Need-one-record-requires
-one-record-requires c κs = rw (c .before .call-area .ensures) (ready-as (moved (c .before .before .before .before .args .op) (c .before .before .before .before .args .k) (c .before .before .if1 .left)) (c .before .before .before .before .pre .1))
+one-record-requires c κs =
+    let start = c .before .before .before .before in
+    rw (c .before .rounded-to-16 .ensures) (ready-as (moved (start .args .op) (start .args .k) (c .before .before .if1 .left)) (start .pre .1))
 
 returns-2 : tie.Need-returns-2
-returns-2 c = makes-as (moved (c .before .before .before .before .before .before .before .args .op) (c .before .before .before .before .before .before .before .args .k) (c .before .before .before .before .before .if1 .left)) (rw (c .before .before .before .before .call-area .ensures) at (c .before .before .one-record .ensures))
+returns-2 c =
+    let start = c .before .before .before .before .before .before .before in
+    makes-as (moved (start .args .op) (start .args .k) (c .before .before .before .before .before .if1 .left)) (rw (c .before .before .before .before .rounded-to-16 .ensures) at (c .before .before .one-record .ensures))
 
 pub move-stack-spec : {M : Type 1} → statement M
 move-stack-spec =
     tie.close
     (tie.spec
-    returns (λ c κs. search needs) one-record-requires (λ c. search needs) returns-2)
+    returns (λ c. search needs) (λ c κs. search needs) one-record-requires (λ c. search needs) returns-2)

@@ -6,18 +6,31 @@ use Rattle.comparisons.proofs.compared.Statement.{statement}
 use Rattle.comparisons.proofs.compared.Tie as tie
 
 put-compared-requires : tie.Need-put-compared-requires
-put-compared-requires c κs = compared-room _ _ _ _ _ _ _ _ _ _ (c .before .before .before .before .before .before .before .before .before .before .before .pre .1 .1 .1 .0) (told sidesSay (c .before .before .before .before .before .before .look-compared .ensures) (c .before .before .before .before .t .given .1)) (c .before .before .before .before .before .before .before .before .before .before .before .pre .1 .1 .1 .1) (c .before .if1 .taken)
+put-compared-requires c κs =
+    let looked = c .before .before .before .before .before .before in
+    let start = looked .before .before .before .before .before in
+    compared-room _ _ _ _ (start .args .t) (start .pre .1 .1 .1 .0) (told sidesSay (looked .look-compared .ensures) (c .before .before .before .before .sides .given .1)) (start .pre .1 .1 .1 .1) (c .before .if1 .taken)
 
 returns : tie.Need-returns
 returns c =
-    compared-makes _ _ _ _ _ _ _ _ _ _ (c .before .before .before .before .before .before .before .before .before .before .before .before .before .before .pre .1 .1 .1 .0) (told sidesSay (c .before .before .before .before .before .before .before .before .before .look-compared .ensures) (c .before .before .before .before .before .before .before .t .given .1)) (c .before .before .before .before .before .records .ensures) (c .before .before .before .before .if1 .taken)
-    (c .before .before .put-compared .ensures)
+    let found = c .before .before .before .before .before .before .before in
+    let looked = found .before .before in
+    let start = looked .before .before .before .before .before in
+    compared-makes _ _ _ _ (start .args .t) (start .pre .1 .1 .1 .0) (told sidesSay (looked .look-compared .ensures) (found .sides .given .1))
+    (c .before .before .before .before .before .records .ensures) (c .before .before .before .before .if1 .taken) (c .before .before .put-compared .ensures)
 
 returns-2 : tie.Need-returns-2
-returns-2 c = compared-counts _ _ _ _ _ _ _ _ _ _ (c .before .before .before .before .before .before .before .before .before .before .pre .1 .1 .1 .0) (told sidesSay (c .before .before .before .before .before .look-compared .ensures) (c .before .before .before .t .given .1)) (c .before .records .ensures) (c .if1 .left)
+returns-2 c =
+    let looked = c .before .before .before .before .before in
+    let start = looked .before .before .before .before .before in
+    compared-counts _ _ _ _ (start .args .t) (start .pre .1 .1 .1 .0) (told sidesSay (looked .look-compared .ensures) (c .before .before .before .sides .given .1)) (c .before .records .ensures)
+    (c .if1 .left)
 
 returns-3 : tie.Need-returns-3
-returns-3 c = compared-refuses _ _ _ _ _ _ _ _ _ _ (c .before .before .before .before .before .before .before .before .pre .1 .1 .1 .0) (told sidesSay (c .before .before .before .look-compared .ensures) (c .before .n .given .1))
+returns-3 c =
+    let looked = c .before .before .before in
+    let start = looked .before .before .before .before .before in
+    compared-refuses _ _ _ _ (start .args .t) (start .pre .1 .1 .1 .0) (told sidesSay (looked .look-compared .ensures) (c .before .n .given .1))
 
 pub compared-spec : {M : Type 1} → statement M
 compared-spec =

@@ -12,10 +12,14 @@ use Rattle.comparisons.proofs.put_compared.Tie as tie
 
 returns : tie.Need-returns
 returns c =
+    let flag = c .before .before .before .before .before .before in
+    let second = flag .before .before .before .before .before .before .before .before in
+    let loaded = second .before .before .before .before in
+    let start = loaded .before .before .before .before .before in
     both _ _ _ _ _ _ _
-    (puts (first (c .before .before .before .before .before .before .before .before .before .before .before .before .before .before .before .before .before .before .put-load .ensures) (put (c .before .before .before .before .before .before .before .before .before .before .before .before .before .before .put-load2 .ensures) (put (c .before .before .before .before .before .before .before .before .before .before .put-instruction .ensures) (put (c .before .before .before .before .before .before .put-set-cc .ensures) done)))) (omega arith))
+    (puts (first (loaded .put-load .ensures) (put (second .put-load2 .ensures) (put (flag .before .before .before .before .put-instruction .ensures) (put (flag .put-set-cc .ensures) done)))) (omega arith))
     (c .before .before .put-store .ensures) (omega arith)
-    (omega (arith, length-append (moreOf (c .before .before .before .before .before .before .before .before .before .before .before .before .before .before .before .before .before .before .before .before .before .args .more)) (move (c .before .before .before .before .before .before .before .before .before .before .before .before .before .before .before .before .before .before .before .before .before .args .t .var) (Operand.Reg RAX) (c .before .before .before .before .before .before .before .before .before .before .before .before .before .before .before .before .before .before .before .before .before .args .t .stored) ∷ [])))
+    (omega (arith, length-append (moreOf (start .args .t .more)) (move (start .args .sides .var) (Operand.Reg RAX) (start .args .sides .stored) ∷ [])))
 
 pub put-compared-spec : {M : Type 1} → statement M
 put-compared-spec =

@@ -12,7 +12,11 @@ returns-2 : tie.Need-returns-2
 returns-2 c = none-made (no-register-left _ _ _ _ (c .before .before .before .is-float .ensures) (c .before .before .if1 .left) (c .before .registers .ensures) (c .if2 .taken))
 
 store-one-requires : tie.Need-store-one-requires
-store-one-requires c κs = ready-as (has-register _ _ _ _ (c .before .before .before .before .is-float .ensures) (c .before .before .before .if1 .left) (c .before .before .registers .ensures) (c .before .if2 .left)) (c .before .before .before .before .before .before .before .before .before .pre)
+store-one-requires c κs =
+    let kind = c .before .before .before .before in (
+      rw (c .before .before .registers .ensures) at (c .before .if2 .left),
+      ready-as (has-register _ _ _ _ (kind .is-float .ensures) (c .before .before .before .if1 .left) (c .before .before .registers .ensures) (c .before .if2 .left)) (kind .before .before .before .before .before .pre),
+    )
 
 returns-3 : tie.Need-returns-3
 returns-3 c = makes-as (has-register _ _ _ _ (c .before .before .before .before .before .before .before .is-float .ensures) (c .before .before .before .before .before .before .if1 .left) (c .before .before .before .before .before .registers .ensures) (c .before .before .before .before .if2 .left)) (c .before .before .store-one .ensures)

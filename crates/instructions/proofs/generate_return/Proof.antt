@@ -1,8 +1,10 @@
+use mathlib.Core.Path.{_∙_}
 use native.Mathlib.Omega.{arith}
 use Rattle.x86.proofs.Lists.{puts, first, done, both}
 use Rattle.utils.specs.Answers.{operandSays}
 use Rattle.instructions.specs.Looks.{returnOf}
 use Rattle.instructions.proofs.Looked.{return-looked}
+use Rattle.utils.proofs.Sources.{own-found}
 use Rattle.utils.proofs.Made.{told, has-room, makes, counts, refuses}
 use borrow.Author.Needs.{needs}
 use Rattle.instructions.proofs.generate_return.Statement.{statement}
@@ -18,7 +20,17 @@ func-epilogue-requires : tie.Need-func-epilogue-requires
 func-epilogue-requires c κs = let h = has-room (returnOf _ _ _) (return-looked _ _ _) (told operandSays (c .before .before .before .before .before .before .before .before .before .before .before .source-at .ensures) (c .before .before .before .before .before .before .before .before .before .src .given .1)) (c .before .before .before .before .before .before .before .before .before .before .before .before .before .before .before .before .pre .1) (c .before .before .before .before .before .before .before .if1 .taken) in search needs
 
 returns : tie.Need-returns
-returns c = let h = has-room (returnOf _ _ _) (return-looked _ _ _) (told operandSays (c .before .before .before .before .before .before .before .before .before .before .before .before .before .before .source-at .ensures) (c .before .before .before .before .before .before .before .before .before .before .before .before .src .given .1)) (c .before .before .before .before .before .before .before .before .before .before .before .before .before .before .before .before .before .before .before .pre .1) (c .before .before .before .before .before .before .before .before .before .before .if1 .taken) in makes (returnOf _ _ _) (return-looked _ _ _) (told operandSays (c .before .before .before .before .before .before .before .before .before .before .before .before .before .before .source-at .ensures) (c .before .before .before .before .before .before .before .before .before .before .before .before .src .given .1)) (c .before .before .before .before .before .before .before .before .before .before .if1 .taken) (both _ _ _ _ _ _ _ (rw (c .before .before .before .before .before .before .before .before .return-register .ensures, c .before .before .before .before .before .before .before .own-size-at .ensures _ (told operandSays (c .before .before .before .before .before .before .before .before .before .before .before .before .before .before .source-at .ensures) (c .before .before .before .before .before .before .before .before .before .before .before .before .src .given .1))) at (puts (first (c .before .before .before .before .before .before .put-load .ensures) done) (omega arith))) (c .before .before .func-epilogue .ensures) (omega arith) (omega arith))
+returns c =
+    let found = c .before .before .before .before .before .before .before .before .before .before .before .before in
+    let looked = found .before .before in
+    let loaded = c .before .before .before .before .before .before in
+    let write = loaded .before .before .before .before .if1 .taken in
+    let source = told operandSays (looked .source-at .ensures) (found .src .given .1) in
+    let size = loaded .before .own-size-at .ensures ∙ own-found _ _ source in
+    let h = has-room (returnOf _ _ _) (return-looked _ _ _) source (looked .before .before .before .before .before .pre .1) write in
+    makes (returnOf _ _ _) (return-looked _ _ _) source write
+    (both _ _ _ _ _ _ _ (rw (loaded .before .before .return-register .ensures, size) at (puts (first (loaded .put-load .ensures) done) (omega arith)))
+    (c .before .before .func-epilogue .ensures) (omega arith) (omega arith))
 
 returns-2 : tie.Need-returns-2
 returns-2 c = counts (returnOf _ _ _) (return-looked _ _ _) (told operandSays (c .before .before .before .before .source-at .ensures) (c .before .before .src .given .1)) (c .if1 .left)

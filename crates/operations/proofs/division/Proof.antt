@@ -1,25 +1,24 @@
-use Rattle.operations.specs.Loads.{sidesSay}
-use Rattle.utils.proofs.Made.{told, refuses}
-use Rattle.operations.proofs.Looked.{dest-type, division-looked, division-room, division-makes, division-counts}
+use Rattle.utils.proofs.Made.{ready-as, makes-as}
+use Rattle.operations.proofs.Looked.{divides, dest-unsigned}
 use borrow.Author.Needs.{needs}
 use Rattle.operations.proofs.division.Statement.{statement}
 use Rattle.operations.proofs.division.Tie as tie
 
-put-division-requires : tie.Need-put-division-requires
-put-division-requires c κs = division-room _ _ _ _ _ (told sidesSay (c .before .before .before .before .before .before .look-sides .ensures) (c .before .before .before .before .t .given .1)) (c .before .before .before .before .before .before .before .before .before .before .before .before .pre .1) (c .before .before .if1 .taken)
+two-loads-requires : tie.Need-two-loads-requires
+two-loads-requires c κs =
+    let start = c .before .before .before .before .before .before .before in
+    let unsigned = dest-unsigned (start .args .s .now) (start .args .k) (c .before .before .type-at .ensures) (c .before .is-unsigned .ensures) in
+    (start .pre .0, ready-as (divides _ _ _ _ _ unsigned) (start .pre .1))
 
 returns : tie.Need-returns
-returns c = division-makes _ _ _ _ _ (told sidesSay (c .before .before .before .before .before .before .before .before .before .look-sides .ensures) (c .before .before .before .before .before .before .before .t .given .1)) (c .before .before .before .before .before .if1 .taken) (rw (c .before .before .before .before .before .before .before .before .before .before .type-at .ensures, dest-type) at (c .before .before .before .is-unsigned .ensures)) (c .before .before .put-division .ensures)
-
-returns-2 : tie.Need-returns-2
-returns-2 c = division-counts _ _ _ _ _ (told sidesSay (c .before .before .before .before .look-sides .ensures) (c .before .before .t .given .1)) (c .if1 .left)
-
-returns-3 : tie.Need-returns-3
-returns-3 c = refuses _ (division-looked _ _ _ _ _) (told sidesSay (c .before .before .before .look-sides .ensures) (c .before .n .given .1))
+returns c =
+    let signed = c .before .before .before .before in
+    let start = signed .before .before .before .before .before .before in
+    let unsigned = dest-unsigned (start .args .s .now) (start .args .k) (signed .before .type-at .ensures) (signed .is-unsigned .ensures) in
+    makes-as (divides _ _ _ _ _ unsigned) (c .before .before .two-loads .ensures)
 
 pub division-spec : {M : Type 1} → statement M
 division-spec =
     tie.close
     (tie.spec
-    (λ c. search needs) (λ c κs. search needs) (λ c κs. search needs) (λ c. search needs) (λ c κs. search needs) put-division-requires
-    (λ c. search needs) (λ c. search needs) returns returns-2 returns-3)
+    (λ c. search needs) (λ c κs. search needs) (λ c κs. search needs) two-loads-requires (λ c. search needs) returns)

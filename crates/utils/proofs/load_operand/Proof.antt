@@ -1,5 +1,6 @@
+use mathlib.Core.Path.{_∙_}
 use Rattle.utils.specs.Answers.{operandSays}
-use Rattle.utils.proofs.Sources.{load-looked}
+use Rattle.utils.proofs.Sources.{own-found, load-looked}
 use Rattle.utils.proofs.Made.{told, has-room, makes, counts, refuses}
 use Rattle.x86.proofs.Lists.{first, done, puts}
 use borrow.Author.Needs.{needs}
@@ -8,13 +9,19 @@ use Rattle.utils.proofs.load_operand.Tie as tie
 
 put-load-requires : tie.Need-put-load-requires
 put-load-requires c κs =
-    has-room _ (load-looked _ _ _) (told operandSays (c .before .before .before .before .before .before .source .ensures) (c .before .before .before .before .src .given .1))
-    (c .before .before .before .before .before .before .before .before .before .before .pre) (c .before .before .if1 .taken)
+    let looked = c .before .before .before .before .before .before in
+    has-room _ (load-looked _ _ _) (told operandSays (looked .source .ensures) (c .before .before .before .before .src .given .1))
+    (looked .before .before .before .before .pre) (c .before .before .if1 .taken)
 
 returns : tie.Need-returns
 returns c =
-    makes _ (load-looked _ _ _) (told operandSays (c .before .before .before .before .before .before .before .before .before .source .ensures) (c .before .before .before .before .before .before .before .src .given .1)) (c .before .before .before .before .before .if1 .taken)
-    (rw (c .before .before .before .own-size .ensures _ (told operandSays (c .before .before .before .before .before .before .before .before .before .source .ensures) (c .before .before .before .before .before .before .before .src .given .1))) at (puts (first (c .before .before .put-load .ensures) done) (has-room _ (load-looked _ _ _) (told operandSays (c .before .before .before .before .before .before .before .before .before .source .ensures) (c .before .before .before .before .before .before .before .src .given .1)) (c .before .before .before .before .before .before .before .before .before .before .before .before .before .pre) (c .before .before .before .before .before .if1 .taken))))
+    let found = c .before .before .before .before .before .before .before in
+    let looked = found .before .before in
+    let source = told operandSays (looked .source .ensures) (found .src .given .1) in
+    let write = c .before .before .before .before .before .if1 .taken in
+    let size = c .before .before .before .own-size .ensures ∙ own-found _ _ source in
+    makes _ (load-looked _ _ _) source write
+    (rw size at (puts (first (c .before .before .put-load .ensures) done) (has-room _ (load-looked _ _ _) source (looked .before .before .before .before .pre) write)))
 
 returns-2 : tie.Need-returns-2
 returns-2 c = counts _ (load-looked _ _ _) (told operandSays (c .before .before .before .before .source .ensures) (c .before .before .src .given .1)) (c .if1 .left)

@@ -8,7 +8,7 @@ returns : tie.Need-returns
 returns c = rw (c .before .before .op .given .1) (c .float-size .ensures)
 
 returns-2 : tie.Need-returns-2
-returns-2 c = λ src h. c .size .ensures ∙ not-float _ _ (c .before .match .keys2)
+returns-2 c = c .size .ensures ∙ not-float _ _ (c .before .match .keys2)
 
 pub own-size-spec : {M : Type 1} → statement M
 own-size-spec =

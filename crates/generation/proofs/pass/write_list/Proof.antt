@@ -1,6 +1,6 @@
 use mathlib.Core.Path.{refl}
 use native.Mathlib.Omega.{arith}
-use Rattle.layout.proofs.Laws.{sheet-right}
+use Rattle.layout.proofs.Laws.{head-params, head-laid}
 use Rattle.layout.proofs.Walk.{has-header, has-vars, has-params}
 use Rattle.generation.proofs.Listing.{first-ready, first-never, first-short, body-ready, made-few, all-written, last-ready, last-written}
 use borrow.Author.Needs.{needs}
@@ -25,7 +25,7 @@ func-prologue-requires c κs =
     let a = c .before .before .cell-at .ensures in
     let b = c .before .cell-at2 .ensures in
     let r = first-ready _ _ _ _ _ _ a b (c .before .before .before .before .before .before .before .args .out .now) (p .1 .0) in
-    (omega (arith, has-params (p .0), a, b), (omega (arith, sheet-right _ (p .0 .is) .head .params, b), r))
+    (omega (arith, has-params (p .0), a, b), (omega (arith, head-params _ (head-laid (p .0)), b), r))
 
 returns : tie.Need-returns
 returns c = first-never _ _ _ _ _ _ (c .before .before .before .before .before .before .before .cell-at .ensures) (c .before .before .before .before .before .before .cell-at2 .ensures) _ (c .before .before .before .before .before .before .before .before .before .before .before .before .pre .1 .0) (rw (c .enum-told .given .1) at (c .before .before .before .before .func-prologue .ensures))
@@ -36,7 +36,7 @@ write-body-requires c κs =
     let a = c .before .before .before .before .before .before .before .before .before .cell-at .ensures in
     let b = c .before .before .before .before .before .before .before .before .cell-at2 .ensures in
     let m = rw (c .before .before .first .given .1) at (c .before .before .before .before .before .before .func-prologue .ensures) in
-    (p .0, (first-short _ _ _ _ _ _ a b _ (p .1 .0) m (omega (arith, sheet-right _ (p .0 .is) .head .params, b)), body-ready _ _ _ _ _ _ a b _ (p .1 .0) m))
+    (p .0, (first-short _ _ _ _ _ _ a b _ (p .1 .0) m (omega (arith, head-params _ (head-laid (p .0)), b)), body-ready _ _ _ _ _ _ a b _ (p .1 .0) m))
 
 add-made : tie.Need-add-made
 add-made c =

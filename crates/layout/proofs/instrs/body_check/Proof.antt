@@ -1,31 +1,30 @@
-use borrow.Author.Tests.{eq-eqb, ne-eqb}
-use Rattle.layout.specs.Layout.{bodyCheck}
+use mathlib.Core.Path.{refl, sym, _∙_}
+use Rattle.layout.proofs.Sides.{one-list}
 use borrow.Author.Needs.{needs}
 use Rattle.layout.proofs.instrs.body_check.Statement.{statement}
 use Rattle.layout.proofs.instrs.body_check.Tie as tie
 
 returns : tie.Need-returns
-unfolding bodyCheck
-returns c = simp (eq-eqb _ _ (c .before .if1 .taken), c .call-check .ensures)
+returns c =
+    let unused = c .before .unused-of .ensures in
+    let q = c .before .before .before in
+    let operands = q .before .before in
+    let r = operands .before .before in
+    c .zeros-check .ensures
+    ∙ sym (one-list _ _ _ ∙ simp (← r .before .before .operands-of .ensures, r .count .given .1, ← operands .operands-check .ensures, q .c2 .given .1, ← unused))
 
 returns-2 : tie.Need-returns-2
-unfolding bodyCheck
 returns-2 c =
-    let p = c .before .before in
-    let q = p .before .before in
-    let r = q .before .before in
-    simp (ne-eqb _ _ (r .if1 .left), ← q .before .has-left .ensures, ← q .side-check .ensures, p .c1 .given .1, c .side-check2 .ensures)
+    let operands = c .before .before .before in
+    let r = operands .before .before in
+    sym (one-list _ _ _ ∙ simp (← r .before .before .operands-of .ensures, r .count .given .1, ← operands .operands-check .ensures, c .before .n .given .1))
 
 returns-3 : tie.Need-returns-3
-unfolding bodyCheck
-returns-3 c =
-    let p = c .before .before .before in
-    let q = p .before .before in
-    simp (ne-eqb _ _ (q .if1 .left), ← p .before .has-left .ensures, ← p .side-check .ensures, c .before .n .given .1)
+returns-3 c = sym (one-list _ _ _ ∙ simp (← c .before .before .before .operands-of .ensures, c .before .n2 .given .1))
 
 pub body-check-spec : {M : Type 1} → statement M
 body-check-spec =
     tie.close
     (tie.spec
-    (λ c κs. search needs) returns (λ c κs. search needs) (λ c κs. search needs) (λ c. search needs) (λ c κs. search needs) (λ c. search needs)
-    returns-2 returns-3)
+    (λ c κs. search needs) (λ c. search needs) (λ c κs. search needs) (λ c. search needs) (λ c κs. search needs) (λ c κs. search needs)
+    (λ c. search needs) (λ c. search needs) returns returns-2 returns-3)

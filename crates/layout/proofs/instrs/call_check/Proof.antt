@@ -10,13 +10,12 @@ returns c = simp (← c .before .before .before .within .ensures, c .before .k .
 returns-2 : tie.Need-returns-2
 unfolding callCheck
 returns-2 c =
-    let p = c .before .before in
+    let p = c .before .before .before in
     let q = p .before .before in
     let r = q .before .before in
     let t = r .before .before in
     let u = t .before .before in
-    let v = u .before .before in
-    simp (← v .within .ensures, u .c1 .given .1, ← t .limited .ensures, r .count .given .1, ← q .zeros-check .ensures, p .c3 .given .1, c .operands-check .ensures)
+    simp (← u .within .ensures, t .c1 .given .1, ← r .limited .ensures, q .count .given .1, ← p .zeros-check .ensures, c .before .c3 .given .1)
 
 returns-3 : tie.Need-returns-3
 unfolding callCheck
@@ -41,4 +40,4 @@ call-check-spec =
     tie.close
     (tie.spec
     (λ c κs. search needs) (λ c. search needs) (λ c. search needs) returns (λ c κs. search needs) (λ c. search needs) (λ c κs. search needs)
-    (λ c. search needs) (λ c κs. search needs) (λ c. search needs) (λ c. search needs) returns-2 returns-3 returns-4)
+    (λ c. search needs) (λ c. search needs) (λ c. search needs) returns-2 returns-3 returns-4)

@@ -1,6 +1,6 @@
-use borrow.Author.Tests.{ne-eqb, le-leb, lt-leb}
+use borrow.Author.Tests.{ne-eqb}
 use Prim.Native.Nat.{ℕ}
-use native.Mathlib.Omega.{arith}
+use Rattle.layout.proofs.Sides.{no-label}
 use Rattle.layout.proofs.instrs.operation_most.Statement.{statement}
 use Rattle.layout.proofs.instrs.operation_most.Tie as tie
 
@@ -14,25 +14,22 @@ returns-3 : tie.Need-returns-3
 returns-3 c = rw (c .match .keys3)
 
 returns-4 : tie.Need-returns-4
-returns-4 c =
-    let p = c .before .before in
-    let k : ℕ = p .before .args .kind in
-    simp (ne-eqb k 1 (p .match .rest .0 .0 .1), ne-eqb k 2 (p .match .rest .0 .1), ne-eqb k 5 (p .match .rest .1), le-leb 6 k (omega arith), le-leb k 8 (omega arith))
+returns-4 c = rw (c .match .keys4)
 
 returns-5 : tie.Need-returns-5
-returns-5 c =
-    let p = c .before in
-    let k : ℕ = p .before .args .kind in
-    simp (ne-eqb k 1 (p .match .rest .0 .0 .1), ne-eqb k 2 (p .match .rest .0 .1), ne-eqb k 5 (p .match .rest .1), lt-leb 6 k (omega arith))
+returns-5 c = rw (c .match .keys5)
 
 returns-6 : tie.Need-returns-6
-returns-6 c =
-    let p = c .before .before in
-    let k : ℕ = p .before .args .kind in
-    simp (ne-eqb k 1 (p .match .rest .0 .0 .1), ne-eqb k 2 (p .match .rest .0 .1), ne-eqb k 5 (p .match .rest .1), lt-leb k 8 (omega arith), le-leb 6 k (omega arith))
+returns-6 c = rw (c .match .keys6)
+
+returns-7 : tie.Need-returns-7
+returns-7 c =
+    let r = c .match .rest in
+    let k : ℕ = c .before .args .kind in
+    simp (ne-eqb k 1 (r .0 .0 .0 .0 .0 .1), ne-eqb k 2 (r .0 .0 .0 .0 .1), ne-eqb k 5 (r .0 .0 .0 .1), no-label k (r .0 .0 .1) (r .0 .1) (r .1))
 
 pub operation-most-spec : {M : Type 1} → statement M
 operation-most-spec =
     tie.close
     (tie.spec
-    returns returns-2 returns-3 returns-4 returns-5 returns-6)
+    returns returns-2 returns-3 returns-4 returns-5 returns-6 returns-7)
