@@ -12,11 +12,12 @@ PREFIX ?= /usr/local
 BUILD ?= build
 ARCHIVE := target/staticlib/libengine.a
 LIB ?= $(ARCHIVE)
-VERSION := 0.1.0
+# The header has the version.
+VERSION := $(shell sed -n 's/^.define GILTHOREN_VERSION_[MP][A-Z]* //p' include/gilthoren.h | paste -sd. -)
 
 COMPILE = $(CC) -std=c11 $(CPPFLAGS) $(CFLAGS) -I$(BUILD)
-HEADERS := $(wildcard tools/*.h)
-SHEET := tools/store.c tools/sheet_text.c tools/sheet_read.c tools/sheet_write.c
+HEADERS := $(wildcard tools/*.h) $(BUILD)/gilthoren.h
+SHEET := tools/store.c tools/text.c tools/sheet_text.c tools/sheet_read.c tools/sheet_write.c
 TOOLS := $(BUILD)/gilthoren-sheet $(BUILD)/gilthoren-intel
 LIBRARY := $(BUILD)/libgilthoren.a $(BUILD)/gilthoren.h
 EXAMPLES := $(BUILD)/listing $(BUILD)/lower
@@ -53,10 +54,11 @@ $(BUILD)/lower: examples/lower.c tools/refusals.c tools/plain_words.c $(SHEET) $
 	$(COMPILE) $(LDFLAGS) -o $@ $(filter %.c %.a,$^)
 
 install: $(LIBRARY) $(TOOLS)
-	$(INSTALL) -d $(DESTDIR)$(PREFIX)/bin $(DESTDIR)$(PREFIX)/include $(DESTDIR)$(PREFIX)/lib/pkgconfig
+	$(INSTALL) -d $(DESTDIR)$(PREFIX)/bin $(DESTDIR)$(PREFIX)/include $(DESTDIR)$(PREFIX)/lib/pkgconfig $(DESTDIR)$(PREFIX)/share/doc/gilthoren
 	$(INSTALL) -m 755 $(TOOLS) $(DESTDIR)$(PREFIX)/bin
 	$(INSTALL) -m 644 include/gilthoren.h $(DESTDIR)$(PREFIX)/include
 	$(INSTALL) -m 644 $(BUILD)/libgilthoren.a $(DESTDIR)$(PREFIX)/lib
+	$(INSTALL) -m 644 docs/FORMAT.md docs/TOOLS.md $(DESTDIR)$(PREFIX)/share/doc/gilthoren
 	sed -e 's|@PREFIX@|$(PREFIX)|' -e 's|@VERSION@|$(VERSION)|' gilthoren.pc.in > $(DESTDIR)$(PREFIX)/lib/pkgconfig/gilthoren.pc
 
 clean:

@@ -1,12 +1,11 @@
-/* Lowers the sheet of 01's listing through the C interface and writes its records, one line of eight numbers each. */
+/* Lowers a sheet through the C interface and writes its records, one line of eight numbers each. It needs nothing but the library.
+ *
+ * Status 0 when the sheet is accepted, 1 when it is refused, 3 when the records cannot be written. */
 #include <inttypes.h>
 #include <stdio.h>
 #include <string.h>
 
 #include "gilthoren.h"
-
-static const char *const words[] = {"accepted", "bad table", "torn sheet",  "oversize", "no width",
-                                    "no entry", "odd width", "no lowering", "reserved", "page full"};
 
 /* Cells as bytes, little-endian. */
 static size_t put_cells(uint8_t *out, const int64_t *cells, size_t n) {
@@ -23,6 +22,13 @@ static int64_t cell(const uint8_t *bytes) {
     return w;
 }
 
+/* Whether all that was written went out; the reason is said where it did not. */
+static int is_written(void) {
+    if (fflush(stdout) == 0 && !ferror(stdout)) return 1;
+    perror("listing: cannot write");
+    return 0;
+}
+
 int main(void) {
     static const int64_t table_cells[] = {0};
     static const int64_t sheet_cells[] = {1, 1, 0, 3, -1, 1, 3, -1, 0, 3, -1, 9, 0, 0, 0, 0, 0, 0, 3, -1, 0, 0, 0, 0};
@@ -34,13 +40,13 @@ int main(void) {
 
     number = gilthoren_lower(tables, t, sheet, s, records, sizeof records, &place);
     if (number != GILTHOREN_ACCEPTED) {
-        printf("refused %" PRIu64 " %" PRIu64 " (%s)\n", number, place, words[number]);
-        return 1;
+        printf("refused %" PRIu64 " %" PRIu64 "\n", number, place);
+        return is_written() ? 1 : 3;
     }
     printf("ok %" PRIu64 "\n", place);
     for (uint64_t r = 0; r < place; r++)
         for (unsigned c = 0; c < 8; c++)
             printf("%" PRId64 "%c", cell(records + GILTHOREN_RECORD_BYTES * r + 8 * c), c < 7 ? ' ' : '\n');
     printf("plain %" PRIu64 "\n", gilthoren_plain(tables, t, sheet, s, &fault));
-    return 0;
+    return is_written() ? 0 : 3;
 }

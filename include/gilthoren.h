@@ -1,7 +1,8 @@
 /* Gilthoren: the proved lowering from placement rules to x86-64 records.
  *
- * Tables, sheets and records are byte slices of cells: eight bytes each, little-endian, two's complement. A slice is a pointer and
- * its length in bytes; the pointer is not null, even where the length is 0, and a length is below 2^63.
+ * Tables, sheets and records are byte slices of cells: eight bytes each, little-endian, two's complement. docs/FORMAT.md has their parts, and
+ * below are the numbers. A slice is a pointer and its length in bytes; the pointer is not null, even where the length is 0, and a length is
+ * below 2^63.
  *
  * Aliasing: the record bytes and `place` overlap nothing else that is lent to the same call, and nobody else writes any of it or
  * reads the record bytes or `place` while the call runs. Tables and sheet may overlap each other; they are never written. Calls on
@@ -19,7 +20,13 @@
 extern "C" {
 #endif
 
-/* Answers of gilthoren_lower. `place` then holds: */
+/* The version of this header and of its library. */
+#define GILTHOREN_VERSION_MAJOR 0
+#define GILTHOREN_VERSION_MINOR 1
+#define GILTHOREN_VERSION_PATCH 0
+#define GILTHOREN_VERSION (10000 * GILTHOREN_VERSION_MAJOR + 100 * GILTHOREN_VERSION_MINOR + GILTHOREN_VERSION_PATCH)
+
+/* Answers. `place` then holds: */
 enum gilthoren_answer {
     GILTHOREN_ACCEPTED = 0,        /* the number of records */
     GILTHOREN_BAD_TABLE = 1,       /* the first wrong cell of the tables: off the layout, or too long */
@@ -33,19 +40,210 @@ enum gilthoren_answer {
     GILTHOREN_PAGE_FULL = 9        /* the number of records needed: the record bytes are fewer than 64 times as many */
 };
 
-/* Bytes of a record: eight cells, form, operation, dst tag, dst value, src tag, src value, size, source size. */
+/* -- sheets -- */
+
+enum gilthoren_limit {
+    GILTHOREN_MOST_STRINGS = 256,
+    GILTHOREN_MOST_FLOATS = 256,
+    GILTHOREN_MOST_VARIABLES = 256,
+    GILTHOREN_MOST_PARAMETERS = 256,
+    GILTHOREN_MOST_LABELS = 256,
+    GILTHOREN_MOST_INSTRUCTIONS = 4096,
+    GILTHOREN_MOST_ARGUMENTS = 64, /* of a call */
+    GILTHOREN_MOST_COUNT = 1048576 /* of a type; and the offset of a variable */
+};
+
+/* How many cells the parts of a sheet have. */
+enum gilthoren_cells {
+    GILTHOREN_CELLS_HEAD = 6,
+    GILTHOREN_CELLS_TYPE = 2,
+    GILTHOREN_CELLS_VARIABLE = 3,
+    GILTHOREN_CELLS_OPERAND = 4,
+    GILTHOREN_CELLS_INSTR = 13 /* without a call's arguments */
+};
+
+/* Type codes. No type is of a return type alone. */
+enum gilthoren_type {
+    GILTHOREN_TYPE_NONE = 0,
+    GILTHOREN_TYPE_LONG = 1,
+    GILTHOREN_TYPE_UNSIGNED_LONG = 2,
+    GILTHOREN_TYPE_SHORT = 3,
+    GILTHOREN_TYPE_UNSIGNED_SHORT = 4,
+    GILTHOREN_TYPE_FLOAT = 5,
+    GILTHOREN_TYPE_SHORT_FLOAT = 6,
+    GILTHOREN_TYPE_BOOL = 7,
+    GILTHOREN_TYPE_CHAR = 8,
+    GILTHOREN_TYPE_BYTE = 9,
+    GILTHOREN_TYPE_ADDRESS = 10,
+    GILTHOREN_TYPE_CUSTOM = 11,
+    GILTHOREN_TYPE_NULL = 12
+};
+
+enum gilthoren_operand {
+    GILTHOREN_OPERAND_VAR = 0,
+    GILTHOREN_OPERAND_INT = 1,
+    GILTHOREN_OPERAND_FLOAT = 2,
+    GILTHOREN_OPERAND_BOOL = 3,
+    GILTHOREN_OPERAND_ADDRESS = 4,
+    GILTHOREN_OPERAND_DATA_ADDRESS = 5,
+    GILTHOREN_OPERAND_NULL = 6
+};
+
+enum gilthoren_instr {
+    GILTHOREN_INSTR_COPY = 0,
+    GILTHOREN_INSTR_UNARY = 1,
+    GILTHOREN_INSTR_BINARY = 2,
+    GILTHOREN_INSTR_CAST = 3,
+    GILTHOREN_INSTR_ZERO = 4,
+    GILTHOREN_INSTR_CALL = 5,
+    GILTHOREN_INSTR_LABEL = 6,
+    GILTHOREN_INSTR_JUMP = 7,
+    GILTHOREN_INSTR_JUMP_IF_NOT = 8,
+    GILTHOREN_INSTR_RETURN = 9,
+    GILTHOREN_INSTR_COMMENT = 10
+};
+
+/* Operations of a Unary and of a Binary. */
+enum gilthoren_unary { GILTHOREN_UNARY_NEG = 0, GILTHOREN_UNARY_BIT_NOT = 1, GILTHOREN_UNARY_NOT = 2 };
+
+enum gilthoren_binary {
+    GILTHOREN_BINARY_OR = 0, /* Or and And are the logical pair, which is not lowered */
+    GILTHOREN_BINARY_AND = 1,
+    GILTHOREN_BINARY_BIT_OR = 2,
+    GILTHOREN_BINARY_BIT_XOR = 3,
+    GILTHOREN_BINARY_BIT_AND = 4,
+    GILTHOREN_BINARY_EQ = 5,
+    GILTHOREN_BINARY_NOT_EQ = 6,
+    GILTHOREN_BINARY_LT = 7,
+    GILTHOREN_BINARY_LE = 8,
+    GILTHOREN_BINARY_GT = 9,
+    GILTHOREN_BINARY_GE = 10,
+    GILTHOREN_BINARY_SHL = 11,
+    GILTHOREN_BINARY_SHR = 12,
+    GILTHOREN_BINARY_ADD = 13,
+    GILTHOREN_BINARY_SUB = 14,
+    GILTHOREN_BINARY_MUL = 15,
+    GILTHOREN_BINARY_DIV = 16,
+    GILTHOREN_BINARY_REM = 17
+};
+
+/* -- records -- */
+
+/* A record is eight cells: form, operation, dst tag, dst value, src tag, src value, size, source size. */
 enum { GILTHOREN_RECORD_BYTES = 64 };
+
+/* Forms, and behind them the operations of each. What is not here stands in no list. */
+enum gilthoren_form {
+    GILTHOREN_FORM_BINARY = 0,
+    GILTHOREN_FORM_COMPLEX_BINARY = 4,
+    GILTHOREN_FORM_CONVERT = 5,
+    GILTHOREN_FORM_CTRL = 6,
+    GILTHOREN_FORM_EXTEND = 7,
+    GILTHOREN_FORM_LEA = 8,   /* of operation 0 */
+    GILTHOREN_FORM_LABEL = 9, /* of operation 0 */
+    GILTHOREN_FORM_PREFIX = 11,
+    GILTHOREN_FORM_SET_CC = 12, /* its operation is a condition code */
+    GILTHOREN_FORM_SHIFT = 13,
+    GILTHOREN_FORM_STACK = 14,
+    GILTHOREN_FORM_UNARY = 17
+};
+
+enum gilthoren_bin_op {
+    GILTHOREN_OP_MOV = 0,
+    GILTHOREN_OP_ADD = 2,
+    GILTHOREN_OP_SUB = 3,
+    GILTHOREN_OP_AND = 6,
+    GILTHOREN_OP_OR = 7,
+    GILTHOREN_OP_XOR = 8,
+    GILTHOREN_OP_CMP = 9,
+    GILTHOREN_OP_LOAD_F = 11,
+    GILTHOREN_OP_STORE_F = 12,
+    GILTHOREN_OP_ADD_F = 13,
+    GILTHOREN_OP_SUB_F = 14,
+    GILTHOREN_OP_MUL_F = 15,
+    GILTHOREN_OP_DIV_F = 16,
+    GILTHOREN_OP_UCOMI_F = 18
+};
+
+enum gilthoren_complex_bin_op { GILTHOREN_OP_DIV = 3, GILTHOREN_OP_IMUL = 4, GILTHOREN_OP_IDIV = 5 };
+
+enum gilthoren_conv_op {
+    GILTHOREN_OP_CVTSD2SS = 1,
+    GILTHOREN_OP_CVTSI2SD = 2,
+    GILTHOREN_OP_CVTSI2SS = 3,
+    GILTHOREN_OP_CVTSS2SD = 4,
+    GILTHOREN_OP_CVTTSD2SI = 6,
+    GILTHOREN_OP_CVTTSS2SI = 7
+};
+
+enum gilthoren_ctrl_op {
+    GILTHOREN_OP_JMP = 0,
+    GILTHOREN_OP_CALL = 1,
+    GILTHOREN_OP_RET = 2,
+    GILTHOREN_OP_JMP_CC = 64 /* plus a condition code, which is E in every list */
+};
+
+enum gilthoren_extend_op { GILTHOREN_OP_MOVSXD = 1, GILTHOREN_OP_MOVZX = 2 };
+enum gilthoren_prefix_op { GILTHOREN_OP_REP_STOS = 20 };
+enum gilthoren_shift_op { GILTHOREN_OP_SHL = 0, GILTHOREN_OP_SHR = 1, GILTHOREN_OP_SAR = 2 };
+enum gilthoren_stack_op { GILTHOREN_OP_PUSH = 0, GILTHOREN_OP_POP = 1 };
+enum gilthoren_unary_op { GILTHOREN_OP_NEG = 0, GILTHOREN_OP_NOT = 1, GILTHOREN_OP_CDQ = 5, GILTHOREN_OP_CQO = 6 };
+
+enum gilthoren_condition_code {
+    GILTHOREN_CC_E = 0,
+    GILTHOREN_CC_NE = 1,
+    GILTHOREN_CC_G = 2,
+    GILTHOREN_CC_GE = 3,
+    GILTHOREN_CC_L = 4,
+    GILTHOREN_CC_LE = 5,
+    GILTHOREN_CC_A = 6,
+    GILTHOREN_CC_AE = 7,
+    GILTHOREN_CC_B = 8,
+    GILTHOREN_CC_BE = 9,
+    GILTHOREN_CC_P = 14,
+    GILTHOREN_CC_NP = 15
+};
+
+/* What the value behind a tag is. */
+enum gilthoren_tag {
+    GILTHOREN_TAG_NO_OPERAND = 0, /* 0 */
+    GILTHOREN_TAG_REG = 1,        /* a register's number */
+    GILTHOREN_TAG_IMM = 2,        /* the number itself */
+    GILTHOREN_TAG_SYM = 3,        /* a symbol's number */
+    GILTHOREN_TAG_LABEL = 4,      /* a label's number in the function */
+    GILTHOREN_TAG_RBP = 5,        /* memory at RBP plus the value */
+    GILTHOREN_TAG_STRING = 6,     /* memory of a string of the tables, RIP-relative */
+    GILTHOREN_TAG_FLOAT = 7,      /* memory of a float constant of the tables, RIP-relative */
+    GILTHOREN_TAG_RSP = 8         /* memory at RSP plus the value */
+};
+
+enum gilthoren_register {
+    GILTHOREN_RAX = 0,
+    GILTHOREN_RCX = 1,
+    GILTHOREN_RDX = 2,
+    GILTHOREN_RSP = 4,
+    GILTHOREN_RBP = 5,
+    GILTHOREN_RSI = 6,
+    GILTHOREN_RDI = 7,
+    GILTHOREN_R8 = 8,
+    GILTHOREN_R9 = 9,
+    GILTHOREN_XMM0 = 16,
+    GILTHOREN_XMM1 = 17,
+    GILTHOREN_XMM2 = 18,
+    GILTHOREN_XMM3 = 19,
+    GILTHOREN_XMM4 = 20,
+    GILTHOREN_XMM5 = 21,
+    GILTHOREN_XMM6 = 22,
+    GILTHOREN_XMM7 = 23
+};
+
+/* -- calls -- */
 
 /* Lowers the function of a sheet. After 0 the record bytes hold the list at their start and their old content behind it; after a
  * refusal they hold their old content. The list is the one that Krc's `generate` collects before `add_function`, but that a Return and
  * an argument read a short float constant by four bytes, that a cast of an unsigned short to an integer of eight bytes widens with
  * zeros, by a four-byte load and the store, that slots lie on their own width, and that arguments and parameters beyond the registers,
- * where Krc has no lowering, are passed on the stack. The refusal is the first in the order of the numbers' table (1; then 2 and 3 by
- * cell; then 4 to 7 in Krc's order of evaluation, of a call the arguments on the stack before those in registers; then 9).
- *
- * A variable's slot starts at RBP less its offset. The offset is the least multiple of the width of the variable, or of an array's
- * element, that is not below the offset of the variable before it plus its own size. An array without elements has an offset too. No
- * offset passes 1,048,576: else refusal 3 names the count cell of the first variable that does.
+ * where Krc has no lowering, are passed on the stack. The refusal is the first of the order in docs/FORMAT.md, "Refusals".
  *
  * Of a list that is accepted it is proved: slots are disjoint and inside the frame; each, and each element of an array, lies at a
  * multiple of its element's width; the frame is the least multiple of 16 not below the last offset; registers carry parameters and
@@ -56,13 +254,12 @@ enum { GILTHOREN_RECORD_BYTES = 64 };
  *
  * If the function is plain (gilthoren_plain says 1), the records, entered as the System V ABI says, simulate it step by step: at most
  * 12 + 2 k + 5 n records for n steps and k parameters beyond the six registers, each slot holding its variable's value, faults and
- * returns exactly where the function has them, no byte changed outside the frame and the saved RBP. Div and Rem are signed where dest is
- * long or short: the quotient is rounded toward zero and the remainder has the dividend's sign. A zero divisor faults, and so does the
- * least signed value divided by -1, for Rem too. */
+ * returns exactly where the function has them, no byte changed outside the frame and the saved RBP. A fault is a division by zero, or of
+ * the least signed value by -1. */
 uint64_t gilthoren_lower(const uint8_t *tables, size_t tables_bytes, const uint8_t *sheet, size_t sheet_bytes,
                          uint8_t *records, size_t records_bytes, uint64_t *place);
 
-/* The plain test: 1 if the function is a plain integer function, and `place` holds 0; else 0, and `place` holds the first number at
+/* The plain test: 1 if the function is a plain one (docs/FORMAT.md), and `place` holds 0; else 0, and `place` holds the first number at
  * fault: 0 for variables, parameters, the return type, refusals 1 to 3 and a refusal before the body; else the number, from 1, of the
  * first instruction that breaks a condition or that the lowering refuses. Of a label placed twice the second place is at fault and
  * every later one, and of a jump to a label that stands nowhere the jump. */

@@ -20,8 +20,8 @@ static struct sheet_refusal trip(const struct bytes *input, uint64_t number, str
     struct sheet_text back = {0};
     struct sheet_error error = {0};
     struct sheet_refusal refusal = sheet_write(input, text);
-    if (!sheet_read(&back, (char *)text->at, text->count, &error)) {
-        fprintf(stderr, "line %zu: %s\n", error.line, error.message);
+    if (!sheet_read(&back, text, &error)) {
+        sheet_say(&error, "");
         cases_stop("its text is not read", number);
     }
     if (back.input.count != input->count || (input->count > 0 && memcmp(back.input.at, input->at, input->count) != 0))
@@ -58,7 +58,7 @@ static void check_damaged(struct bytes *text, uint64_t number, struct counts *co
     struct sheet_error error = {0};
     struct bytes again = {0};
     damage(text);
-    if (sheet_read(&sheet, (char *)text->at, text->count, &error)) {
+    if (sheet_read(&sheet, text, &error)) {
         trip(&sheet.input, number, &again);
         counts->damaged_read++;
     } else {
@@ -75,8 +75,8 @@ static void check(const struct answer *a, uint64_t number, struct counts *counts
     bytes_add(&input, a->tables.at, a->tables.count);
     bytes_add(&input, a->sheet.at, a->sheet.count);
     struct sheet_refusal refusal = trip(&input, number, &text);
-    bool is_refused = a->number >= 1 && a->number <= 3;
-    if (refusal.number != (is_refused ? (int)a->number : 0)) cases_stop("another verdict on the layout", number);
+    bool is_refused = a->number >= GILTHOREN_BAD_TABLE && a->number <= GILTHOREN_OVERSIZE;
+    if (refusal.number != (is_refused ? a->number : GILTHOREN_ACCEPTED)) cases_stop("another verdict on the layout", number);
     if (is_refused && refusal.cell != a->place) cases_stop("another cell is refused", number);
     *(is_refused ? &counts->raw : &counts->words) += 1;
     for (int i = 0; i < 3 && text.count > 0; i++) check_damaged(&text, number, counts);
@@ -89,7 +89,7 @@ static void check_raw(size_t bytes) {
     struct bytes input = {0}, text = {0};
     for (size_t i = 0; i < bytes; i++) bytes_add(&input, &(uint8_t){(uint8_t)(255 - i)}, 1);
     struct sheet_refusal refusal = trip(&input, bytes, &text);
-    if (refusal.number != 1 || refusal.cell != 0) cases_stop("an input without a count is not refused", bytes);
+    if (refusal.number != GILTHOREN_BAD_TABLE || refusal.cell != 0) cases_stop("an input without a count is not refused", bytes);
     bytes_clear(&input);
     bytes_clear(&text);
 }

@@ -16,9 +16,15 @@ static bool is_fault(const struct answer *a, uint64_t number) {
     return false;
 }
 
+/* Whether tables and sheet are readable: the lowering accepts them, or refuses them by a number behind the layout's. */
+static bool is_readable(const struct answer *a, uint64_t index) {
+    if (a->number > GILTHOREN_PAGE_FULL) cases_stop("a number that the lowering does not answer", index);
+    return a->number == GILTHOREN_ACCEPTED || a->number > GILTHOREN_OVERSIZE;
+}
+
 /* How many numbers have words. */
 static uint64_t check_words(const struct answer *a, uint64_t index) {
-    bool is_refused = a->number >= 4 && a->number <= 8;
+    bool is_refused = a->number > GILTHOREN_OVERSIZE && a->number < GILTHOREN_PAGE_FULL;
     uint64_t with = 0, end = is_refused ? a->place : (uint64_t)cell_at(a->sheet.at, 5) + 1;
     for (uint64_t number = 0; number < end; number++) {
         bool has_words = plain_words(a->sheet.at, number) != NULL;
@@ -34,7 +40,7 @@ int main(int words, char **word) {
     uint64_t readable = 0, with = 0;
     for (uint64_t i = 0; i < cases.count; i++) {
         struct answer a = cases_next(&cases);
-        if (a.number == 0 || a.number >= 4) {
+        if (is_readable(&a, i)) {
             readable++;
             with += check_words(&a, i);
         }

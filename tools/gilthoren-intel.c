@@ -6,12 +6,14 @@
 #include "intel.h"
 #include "refusals.h"
 
+static const char NAME[] = "gilthoren-intel";
 static const char USAGE[] = "usage: gilthoren-intel [CELLS or TEXT] < LISTING\n";
 
 enum { NUMBERS_WIDTH = 32, LONGEST_LINE = 256 };
 
 /* A listing on its way through. */
 struct listing {
+    struct lines lines;
     char line[LONGEST_LINE];
     size_t number; /* of the line, from 1 */
     const struct sheet_text *sheet;
@@ -19,16 +21,18 @@ struct listing {
 };
 
 static int fails(const struct listing *l, const char *message) {
-    fprintf(stderr, "gilthoren-intel: line %zu: %s\n", l->number, message);
+    fprintf(stderr, "%s: line %zu: %s\n", NAME, l->number, message);
     return 1;
 }
 
-/* The next line without its end; false if there is none or it is too long. */
+/* The next line; false if there is none. One that is too long, or has a zero in it, is as good as empty: no line of a listing is. */
 static bool next_line(struct listing *l) {
+    const char *start, *end;
     l->number++;
-    if (!fgets(l->line, sizeof l->line, stdin)) return false;
-    size_t length = strcspn(l->line, "\r\n");
-    if (length == sizeof l->line - 1) return false;
+    if (!lines_next(&l->lines, &start, &end)) return false;
+    size_t length = (size_t)(end - start);
+    if (length >= sizeof l->line || memchr(start, 0, length)) length = 0;
+    memcpy(l->line, start, length);
     l->line[length] = 0;
     return true;
 }
@@ -63,7 +67,7 @@ static bool put_record(struct listing *l) {
     int64_t n[8];
     if (!numbers(l->line, n, 8)) return false;
     struct record record = {n[0], n[1], n[2], n[3], n[4], n[5], n[6], n[7]};
-    bool is_label = record.form == 9;
+    bool is_label = record.form == GILTHOREN_FORM_LABEL;
     bytes_print(&l->text, "%-*s %s", NUMBERS_WIDTH, l->line, is_label ? "" : "    ");
     if (!intel_print(&record, l->sheet, &l->text)) return false;
     put_comment(l, &record);
@@ -87,7 +91,7 @@ static int accepted(struct listing *l, int64_t records) {
         if (!next_line(l)) return fails(l, "expected a record");
         if (!put_record(l)) return fails(l, "expected eight numbers of a record that a list can hold");
     }
-    if (next_line(l) || !feof(stdin)) return fails(l, "expected the end of the listing");
+    if (next_line(l)) return fails(l, "expected the end of the listing");
     return 0;
 }
 
@@ -98,22 +102,33 @@ static int refused(struct listing *l, uint64_t number, uint64_t place) {
     return 0;
 }
 
-/* 8 is reserved and never answered. */
-static bool is_refusal(int64_t number) {
-    return number >= 1 && number <= 9 && number != 8;
-}
-
 static int show(struct listing *l) {
     int64_t value[2];
     bool has_line = next_line(l);
     if (has_line && strncmp(l->line, "ok ", 3) == 0 && numbers(l->line + 3, value, 1) && value[0] >= 0) return accepted(l, value[0]);
-    if (has_line && strncmp(l->line, "refused ", 8) == 0 && numbers(l->line + 8, value, 2) && is_refusal(value[0]) && value[1] >= 0)
+    if (has_line && strncmp(l->line, "refused ", 8) == 0 && numbers(l->line + 8, value, 2) && refusal_is_known((uint64_t)value[0]) && value[1] >= 0)
         return refused(l, (uint64_t)value[0], (uint64_t)value[1]);
     if (has_line && strcmp(l->line, "too long") == 0) {
         bytes_print(&l->text, "too long: the input has more than 65536 bytes\n");
         return 0;
     }
     return fails(l, "expected 'ok' and a count, 'refused' with number and place, or 'too long'");
+}
+
+/* Reads the listing and shows it. */
+static int show_listing(struct listing *l) {
+    struct bytes listing = {0};
+    int status = 1;
+    if (!bytes_read(&listing, stdin)) {
+        fprintf(stderr, "%s: cannot read: %s\n", NAME, strerror(errno));
+    } else if (text_wide(&listing)) {
+        fprintf(stderr, "%s: expected a listing in UTF-8, found %s\n", NAME, text_wide(&listing));
+    } else {
+        l->lines = text_lines((const char *)listing.at, listing.count);
+        status = show(l);
+    }
+    bytes_clear(&listing);
+    return status;
 }
 
 int main(int count, char **words) {
@@ -124,8 +139,8 @@ int main(int count, char **words) {
         return 2;
     }
     if (count == 2) l.sheet = &sheet;
-    int status = count == 2 && !sheet_open(&sheet, words[1], "gilthoren-intel: ") ? 1 : show(&l);
-    if (status == 0 && !bytes_write(&l.text, stdout)) status = fails(&l, "cannot write");
+    int status = count == 2 && !sheet_open(&sheet, words[1], "gilthoren-intel: ") ? 1 : show_listing(&l);
+    if (status == 0) status = bytes_end(&l.text, NAME, 0);
     bytes_clear(&l.text);
     sheet_clear(&sheet);
     return status;

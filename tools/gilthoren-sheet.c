@@ -1,27 +1,20 @@
 /* Tables and sheet: text to cells, and cells to text. */
+#include <errno.h>
+#include <inttypes.h>
 #include <string.h>
 
 #include "sheet_text.h"
 
+static const char NAME[] = "gilthoren-sheet";
 static const char USAGE[] = "usage: gilthoren-sheet cells < TEXT > CELLS\n"
                             "       gilthoren-sheet text < CELLS > TEXT\n";
-
-/* Status 1 with a message. */
-static int fails(const char *message) {
-    fprintf(stderr, "gilthoren-sheet: %s\n", message);
-    return 1;
-}
 
 static int text_to_cells(const struct bytes *in) {
     struct sheet_text sheet = {0};
     struct sheet_error error;
-    int status = 0;
-    if (!sheet_read(&sheet, (const char *)in->at, in->count, &error)) {
-        fprintf(stderr, "gilthoren-sheet: line %zu: %s\n", error.line, error.message);
-        status = 1;
-    } else if (!bytes_write(&sheet.input, stdout)) {
-        status = fails("cannot write");
-    }
+    int status = 1;
+    if (sheet_read(&sheet, in, &error)) status = bytes_end(&sheet.input, NAME, 0);
+    else sheet_say(&error, "gilthoren-sheet: ");
     sheet_clear(&sheet);
     return status;
 }
@@ -31,9 +24,9 @@ static int cells_to_text(const struct bytes *in) {
     struct bytes text = {0};
     struct sheet_refusal refusal = sheet_write(in, &text);
     if (refusal.number)
-        fprintf(stderr, "gilthoren-sheet: not readable, written as raw cells: refused %d, cell %zu of the %s\n", refusal.number, refusal.cell,
-                refusal.number == 1 ? "tables" : "sheet");
-    int status = bytes_write(&text, stdout) ? 0 : fails("cannot write");
+        fprintf(stderr, "%s: not readable, written as raw cells: refused %" PRIu64 ", cell %zu of the %s\n", NAME, refusal.number, refusal.cell,
+                refusal.number == GILTHOREN_BAD_TABLE ? "tables" : "sheet");
+    int status = bytes_end(&text, NAME, 0);
     bytes_clear(&text);
     return status;
 }
@@ -45,8 +38,9 @@ int main(int count, char **words) {
         fputs(USAGE, stderr);
         return 2;
     }
-    if (!bytes_read(&in, stdin)) return fails("cannot read");
-    int status = to_cells ? text_to_cells(&in) : cells_to_text(&in);
+    int status = 1;
+    if (!bytes_read(&in, stdin)) fprintf(stderr, "%s: cannot read: %s\n", NAME, strerror(errno));
+    else status = to_cells ? text_to_cells(&in) : cells_to_text(&in);
     bytes_clear(&in);
     return status;
 }

@@ -1,10 +1,8 @@
 /* What a function lacks to be a plain one, in words. Each function gives a condition that is broken, or NULL. */
 #include "plain_words.h"
 
-/* Cells of an instruction, and where its parts start among them. */
-enum { INSTRUCTION = 13, OPERATION = 1, DEST = 2, LEFT = 5, RIGHT = 9, ARGUMENTS = 6 };
-enum { LONG = 1, ULONG = 2, SHORT = 3, USHORT = 4, BOOLEAN = 7, ADDRESS = 10, NO_TYPE = 12 };
-enum { OR, AND, BIT_OR, BIT_XOR, BIT_AND, EQ, GE = 10, ADD = 13, SUB, MUL, DIV, REM };
+/* Where the parts of an instruction start among its cells, and where a call counts its arguments. */
+enum { OPERATION = 1, DEST = 2, LEFT = 5, RIGHT = 9, ARGUMENTS = 6 };
 
 static const int64_t LOW = -(1LL << 31), IMMEDIATE_HIGH = (1LL << 31) - 1, SHORT_HIGH = (1LL << 32) - 1;
 
@@ -14,14 +12,14 @@ static const char NO_PLAIN_CODE[] = "a variable is a float, custom or null";
 
 /* Integers, Bool, Char, Byte and Address. */
 static bool is_plain_code(int64_t code) {
-    return (code >= LONG && code <= USHORT) || (code >= BOOLEAN && code <= ADDRESS);
+    return (code >= GILTHOREN_TYPE_LONG && code <= GILTHOREN_TYPE_UNSIGNED_SHORT) || (code >= GILTHOREN_TYPE_BOOL && code <= GILTHOREN_TYPE_ADDRESS);
 }
 
 /* Of the variable at a cell: its id, code and count. */
 static const char *entry_words(const uint8_t *sheet, size_t cell) {
     int64_t id = cell_at(sheet, cell);
     if (id >= cell_at(sheet, 0)) return "a variable has no entry";
-    size_t entry = SHEET_HEAD + 2 * (size_t)id;
+    size_t entry = sheet_entry((size_t)id);
     if (cell_at(sheet, cell + 1) != cell_at(sheet, entry) || cell_at(sheet, cell + 2) != cell_at(sheet, entry + 1))
         return "a variable's own type is not its entry's";
     return is_plain_code(cell_at(sheet, cell + 1)) ? NULL : NO_PLAIN_CODE;
@@ -44,16 +42,16 @@ static bool is_within(int64_t value, int64_t low, int64_t high) {
 }
 
 static bool is_constant(const uint8_t *sheet, size_t cell, bool is_short) {
-    return cell_at(sheet, cell) == OPERAND_INT && cell_at(sheet, cell + 2) == is_short;
+    return cell_at(sheet, cell) == GILTHOREN_OPERAND_INT && cell_at(sheet, cell + 2) == is_short;
 }
 
 static const char *operand_words(const uint8_t *sheet, size_t cell) {
     if (is_constant(sheet, cell, true) && !is_within(cell_at(sheet, cell + 1), LOW, SHORT_HIGH)) return "a short constant is not in -2^31 to 2^32 - 1";
-    switch ((enum sheet_operand)cell_at(sheet, cell)) {
-    case OPERAND_VAR: return scalar_words(sheet, cell + 1);
-    case OPERAND_FLOAT: return "an operand is a float constant";
-    case OPERAND_ADDRESS: return "an operand is the address of a variable";
-    case OPERAND_DATA_ADDRESS: return "an operand is the address of a string";
+    switch ((enum gilthoren_operand)cell_at(sheet, cell)) {
+    case GILTHOREN_OPERAND_VAR: return scalar_words(sheet, cell + 1);
+    case GILTHOREN_OPERAND_FLOAT: return "an operand is a float constant";
+    case GILTHOREN_OPERAND_ADDRESS: return "an operand is the address of a variable";
+    case GILTHOREN_OPERAND_DATA_ADDRESS: return "an operand is the address of a string";
     default: return NULL;
     }
 }
@@ -61,32 +59,28 @@ static const char *operand_words(const uint8_t *sheet, size_t cell) {
 /* Of an operand that is plain. */
 static int64_t width(const uint8_t *sheet, size_t cell) {
     int64_t kind = cell_at(sheet, cell);
-    if (kind == OPERAND_VAR) return dest_width(sheet, cell + 1);
-    if (kind == OPERAND_BOOL) return 1;
+    if (kind == GILTHOREN_OPERAND_VAR) return dest_width(sheet, cell + 1);
+    if (kind == GILTHOREN_OPERAND_BOOL) return 1;
     return is_constant(sheet, cell, true) ? 4 : 8;
 }
 
 static bool is_bool(const uint8_t *sheet, size_t cell) {
     int64_t kind = cell_at(sheet, cell);
-    return kind == OPERAND_BOOL || (kind == OPERAND_VAR && cell_at(sheet, cell + 2) == BOOLEAN);
+    return kind == GILTHOREN_OPERAND_BOOL || (kind == GILTHOREN_OPERAND_VAR && cell_at(sheet, cell + 2) == GILTHOREN_TYPE_BOOL);
 }
 
 /* -- labels -- */
 
 static size_t behind(const uint8_t *sheet, size_t cell) {
-    size_t arguments = cell_at(sheet, cell) == INSTR_CALL ? (size_t)cell_at(sheet, cell + ARGUMENTS) : 0;
-    return cell + INSTRUCTION + 4 * arguments;
-}
-
-static size_t body_start(const uint8_t *sheet) {
-    return SHEET_HEAD + 2 * (size_t)cell_at(sheet, 0) + 3 * (size_t)cell_at(sheet, 1);
+    size_t arguments = cell_at(sheet, cell) == GILTHOREN_INSTR_CALL ? (size_t)cell_at(sheet, cell + ARGUMENTS) : 0;
+    return cell + GILTHOREN_CELLS_INSTR + GILTHOREN_CELLS_OPERAND * arguments;
 }
 
 /* Whether a label stands among the first instructions. */
 static bool stands(const uint8_t *sheet, int64_t label, uint64_t instructions) {
-    size_t cell = body_start(sheet);
+    size_t cell = sheet_body(sheet);
     for (; instructions > 0; instructions--, cell = behind(sheet, cell))
-        if (cell_at(sheet, cell) == INSTR_LABEL && cell_at(sheet, cell + OPERATION) == label) return true;
+        if (cell_at(sheet, cell) == GILTHOREN_INSTR_LABEL && cell_at(sheet, cell + OPERATION) == label) return true;
     return false;
 }
 
@@ -113,20 +107,20 @@ static const char *move_words(const uint8_t *sheet, size_t cell) {
 static const char *operation_words(const uint8_t *sheet, size_t cell) {
     int64_t operation = cell_at(sheet, cell + OPERATION);
     bool is_byte = dest_width(sheet, cell + DEST) == 1;
-    bool takes_immediate = is_within(operation, BIT_OR, BIT_AND) || operation == ADD || operation == SUB;
+    bool takes_immediate = is_within(operation, GILTHOREN_BINARY_BIT_OR, GILTHOREN_BINARY_BIT_AND) || operation == GILTHOREN_BINARY_ADD || operation == GILTHOREN_BINARY_SUB;
     if (takes_immediate && is_constant(sheet, cell + RIGHT, false) && !is_within(cell_at(sheet, cell + RIGHT + 1), LOW, IMMEDIATE_HIGH))
         return "a long constant as right is not in -2^31 to 2^31 - 1";
-    if (operation == MUL && is_byte) return "mul is not one byte wide";
-    return operation == REM && is_byte ? "rem is not one byte wide" : NULL;
+    if (operation == GILTHOREN_BINARY_MUL && is_byte) return "mul is not one byte wide";
+    return operation == GILTHOREN_BINARY_REM && is_byte ? "rem is not one byte wide" : NULL;
 }
 
 static const char *binary_words(const uint8_t *sheet, size_t cell) {
     const char *words = dest_and_left(sheet, cell);
     int64_t operation = cell_at(sheet, cell + OPERATION);
     if (!words) words = operand_words(sheet, cell + RIGHT);
-    if (words || operation == OR || operation == AND) return words;
+    if (words || operation == GILTHOREN_BINARY_OR || operation == GILTHOREN_BINARY_AND) return words;
     if (width(sheet, cell + LEFT) != width(sheet, cell + RIGHT)) return "left and right do not agree in width";
-    if (is_within(operation, EQ, GE)) return cell_at(sheet, cell + DEST + 1) == BOOLEAN ? NULL : "the dest of a comparison is not bool";
+    if (is_within(operation, GILTHOREN_BINARY_EQ, GILTHOREN_BINARY_GE)) return cell_at(sheet, cell + DEST + 1) == GILTHOREN_TYPE_BOOL ? NULL : "the dest of a comparison is not bool";
     if (width(sheet, cell + LEFT) != dest_width(sheet, cell + DEST)) return "operands and dest do not agree in width";
     return operation_words(sheet, cell);
 }
@@ -135,7 +129,7 @@ static const char *cast_words(const uint8_t *sheet, size_t cell) {
     const char *words = dest_and_left(sheet, cell);
     if (words) return words;
     int64_t code = cell_at(sheet, cell + DEST + 1), from = width(sheet, cell + LEFT), to = dest_width(sheet, cell + DEST);
-    if (from == 4 && to == 8 && code != LONG && code != ULONG) return "a cast from four bytes to eight has a dest of long or ulong";
+    if (from == 4 && to == 8 && code != GILTHOREN_TYPE_LONG && code != GILTHOREN_TYPE_UNSIGNED_LONG) return "a cast from four bytes to eight has a dest of long or ulong";
     if (to < 8 && is_constant(sheet, cell + LEFT, false) && !is_within(cell_at(sheet, cell + LEFT + 1), LOW, SHORT_HIGH))
         return "a long constant that is cast to fewer bytes is not in -2^31 to 2^32 - 1";
     return NULL;
@@ -152,18 +146,18 @@ static const char *label_words(const uint8_t *sheet, size_t cell, uint64_t befor
 }
 
 static const char *instruction_words(const uint8_t *sheet, size_t cell, uint64_t before) {
-    switch ((enum sheet_instr)cell_at(sheet, cell)) {
-    case INSTR_COPY:
-    case INSTR_UNARY: return move_words(sheet, cell);
-    case INSTR_BINARY: return binary_words(sheet, cell);
-    case INSTR_CAST: return cast_words(sheet, cell);
-    case INSTR_ZERO: return entry_words(sheet, cell + DEST);
-    case INSTR_CALL: return "it is a call";
-    case INSTR_LABEL: return label_words(sheet, cell, before);
-    case INSTR_JUMP: return jump_words(sheet, cell);
-    case INSTR_JUMP_IF_NOT: return jump_if_not_words(sheet, cell);
-    case INSTR_RETURN: return operand_words(sheet, cell + LEFT);
-    case INSTR_COMMENT: break;
+    switch ((enum gilthoren_instr)cell_at(sheet, cell)) {
+    case GILTHOREN_INSTR_COPY:
+    case GILTHOREN_INSTR_UNARY: return move_words(sheet, cell);
+    case GILTHOREN_INSTR_BINARY: return binary_words(sheet, cell);
+    case GILTHOREN_INSTR_CAST: return cast_words(sheet, cell);
+    case GILTHOREN_INSTR_ZERO: return entry_words(sheet, cell + DEST);
+    case GILTHOREN_INSTR_CALL: return "it is a call";
+    case GILTHOREN_INSTR_LABEL: return label_words(sheet, cell, before);
+    case GILTHOREN_INSTR_JUMP: return jump_words(sheet, cell);
+    case GILTHOREN_INSTR_JUMP_IF_NOT: return jump_if_not_words(sheet, cell);
+    case GILTHOREN_INSTR_RETURN: return operand_words(sheet, cell + LEFT);
+    case GILTHOREN_INSTR_COMMENT: break;
     }
     return NULL;
 }
@@ -173,11 +167,11 @@ static const char *instruction_words(const uint8_t *sheet, size_t cell, uint64_t
 static const char *return_words(const uint8_t *sheet) {
     int64_t code = cell_at(sheet, 3), count = cell_at(sheet, 4);
     if (count != -1) return "the return type is an array";
-    return code == 0 || code == NO_TYPE || is_plain_code(code) ? NULL : "the return type is a float or custom";
+    return code == GILTHOREN_TYPE_NONE || code == GILTHOREN_TYPE_NULL || is_plain_code(code) ? NULL : "the return type is a float or custom";
 }
 
 static const char *parameter_words(const uint8_t *sheet, size_t first, size_t cell) {
-    for (size_t other = first; other < cell; other += 3)
+    for (size_t other = first; other < cell; other += GILTHOREN_CELLS_VARIABLE)
         if (cell_at(sheet, other) == cell_at(sheet, cell)) return "two parameters are one variable";
     const char *words = entry_words(sheet, cell);
     if (words) return words;
@@ -185,16 +179,16 @@ static const char *parameter_words(const uint8_t *sheet, size_t first, size_t ce
 }
 
 static const char *head_words(const uint8_t *sheet) {
-    size_t variables = (size_t)cell_at(sheet, 0), first = SHEET_HEAD + 2 * variables, end = body_start(sheet);
-    for (size_t cell = SHEET_HEAD; cell < first; cell += 2)
+    size_t first = sheet_entry((size_t)cell_at(sheet, 0)), end = sheet_body(sheet);
+    for (size_t cell = sheet_entry(0); cell < first; cell += GILTHOREN_CELLS_TYPE)
         if (!is_plain_code(cell_at(sheet, cell))) return NO_PLAIN_CODE;
     const char *words = return_words(sheet);
-    for (size_t cell = first; !words && cell < end; cell += 3) words = parameter_words(sheet, first, cell);
+    for (size_t cell = first; !words && cell < end; cell += GILTHOREN_CELLS_VARIABLE) words = parameter_words(sheet, first, cell);
     return words;
 }
 
 const char *plain_words(const uint8_t *sheet, uint64_t number) {
-    size_t cell = body_start(sheet);
+    size_t cell = sheet_body(sheet);
     if (number == 0) return head_words(sheet);
     for (uint64_t before = number - 1; before > 0; before--) cell = behind(sheet, cell);
     return instruction_words(sheet, cell, number - 1);

@@ -16,7 +16,7 @@ struct type {
 
 struct reader {
     const char *at, *end; /* what is left of the line, without its comment */
-    size_t line;
+    size_t line;          /* 0 before the first */
     struct sheet_text *sheet;
     struct sheet_error *error;
     struct part floats, variables, parameters, body, raw;
@@ -41,11 +41,10 @@ static bool fail(struct reader *r, const char *format, ...) {
     return false;
 }
 
-/* The rest of the line in short, for a message. */
+/* A message with the start of what is left of the line. */
 static bool expected(struct reader *r, const char *what) {
-    int length = r->end - r->at > 24 ? 24 : (int)(r->end - r->at);
-    if (length == 0) return fail(r, "expected %s, found the end of the line", what);
-    return fail(r, "expected %s, found '%.*s'", what, length, r->at);
+    if (r->at == r->end) return fail(r, "expected %s, found the end of the line", what);
+    return fail(r, "expected %s, found '%s'", what, text_shown(r->at, (size_t)(r->end - r->at)).text);
 }
 
 /* -- cells -- */
@@ -65,13 +64,23 @@ static bool is_digit(char c) {
     return c >= '0' && c <= '9';
 }
 
-/* Bytes of other alphabets count as letters. */
-static bool is_letter(char c) {
-    return (c >= 'a' && c <= 'z') || (c >= 'A' && c <= 'Z') || c == '_' || (unsigned char)c >= 0x80;
+/* The bytes of a letter; 0 if there is none. */
+static size_t letter(const char *at, const char *end) {
+    uint32_t code;
+    size_t length = at < end ? text_character(at, end, &code) : 0;
+    return length > 0 && text_is_letter(code) ? length : 0;
+}
+
+static size_t letter_or_digit(const char *at, const char *end) {
+    return at < end && is_digit(*at) ? 1 : letter(at, end);
+}
+
+static bool is_blank(char c) {
+    return c == ' ' || c == '\t';
 }
 
 static void skip_blanks(struct reader *r) {
-    while (r->at < r->end && (*r->at == ' ' || *r->at == '\t' || *r->at == '\r')) r->at++;
+    while (r->at < r->end && is_blank(*r->at)) r->at++;
 }
 
 static bool at_end(struct reader *r) {
@@ -102,9 +111,9 @@ static bool need_sign(struct reader *r, char c) {
 /* The next word, of length 0 if there is none; it is left where it is. */
 static struct word peek_word(struct reader *r) {
     skip_blanks(r);
-    struct word word = {r->at, 0};
-    if (r->at == r->end || !is_letter(*r->at)) return word;
-    while (r->at + word.length < r->end && (is_letter(r->at[word.length]) || is_digit(r->at[word.length]))) word.length++;
+    struct word word = {r->at, letter(r->at, r->end)};
+    if (word.length == 0) return word;
+    for (size_t more; (more = letter_or_digit(r->at + word.length, r->end)) > 0;) word.length += more;
     return word;
 }
 
@@ -146,7 +155,7 @@ static bool need_number(struct reader *r, int64_t *value) {
     bool negative = at < r->end && *at == '-';
     uint64_t size;
     if (negative) at++;
-    if (!digits(&at, r->end, (uint64_t)INT64_MAX + negative, &size) || (at < r->end && is_letter(*at)))
+    if (!digits(&at, r->end, (uint64_t)INT64_MAX + negative, &size) || letter(at, r->end) > 0)
         return expected(r, "a number from -9223372036854775808 to 9223372036854775807");
     r->at = at;
     *value = negative ? (size ? -(int64_t)(size - 1) - 1 : 0) : (int64_t)size;
@@ -223,8 +232,7 @@ static bool entry(const struct reader *r, int64_t id, struct type *type) {
 }
 
 static bool unknown_name(struct reader *r, const char *what, struct word word) {
-    int length = word.length > 24 ? 24 : (int)word.length;
-    return fail(r, "expected %s, found '%.*s', which names no variable above", what, length, word.at);
+    return fail(r, "expected %s, found '%s', which names no variable above", what, text_shown(word.at, word.length).text);
 }
 
 /* A variable as id, code, count: v and its number, or its name; then its own type, if that is not its entry's. */
@@ -239,8 +247,8 @@ static bool need_variable(struct reader *r, const char *what, int64_t cells[3]) 
     if (take_sign(r, ':')) {
         if (!need_type(r, &type)) return false;
     } else if (!entry(r, cells[0], &type)) {
-        return fail(r, "expected a type behind '%.*s', as %.*s:long: there is no such variable above", (int)word.length, word.at,
-                    (int)word.length, word.at);
+        struct shown shown = text_shown(word.at, word.length);
+        return fail(r, "expected a type behind '%s', as %s:long: there is no such variable above", shown.text, shown.text);
     }
     cells[1] = type.code;
     cells[2] = type.count;
@@ -259,7 +267,7 @@ static bool need_label(struct reader *r, int64_t *label) {
 /* An integer constant: its number, and its type if that is not long. */
 static bool need_int(struct reader *r, int64_t cells[4]) {
     static const char *const types[] = {"long", "ulong", "short", "ushort"};
-    cells[0] = OPERAND_INT;
+    cells[0] = GILTHOREN_OPERAND_INT;
     if (!need_number(r, &cells[1])) return false;
     if (!take_sign(r, ':')) return true;
     struct word word = peek_word(r);
@@ -274,10 +282,10 @@ static bool need_int(struct reader *r, int64_t cells[4]) {
 /* The words that are operands by themselves, and constants of the tables. */
 static bool is_plain_operand(struct word word, int64_t cells[4]) {
     cells[1] = is_word(word, "true");
-    if (is_word(word, "null")) cells[0] = OPERAND_NULL;
-    else if (is_word(word, "true") || is_word(word, "false")) cells[0] = OPERAND_BOOL;
-    else if (is_numbered(word, 'f', &cells[1])) cells[0] = OPERAND_FLOAT;
-    else if (is_numbered(word, 's', &cells[1])) cells[0] = OPERAND_DATA_ADDRESS;
+    if (is_word(word, "null")) cells[0] = GILTHOREN_OPERAND_NULL;
+    else if (is_word(word, "true") || is_word(word, "false")) cells[0] = GILTHOREN_OPERAND_BOOL;
+    else if (is_numbered(word, 'f', &cells[1])) cells[0] = GILTHOREN_OPERAND_FLOAT;
+    else if (is_numbered(word, 's', &cells[1])) cells[0] = GILTHOREN_OPERAND_DATA_ADDRESS;
     else return false;
     return true;
 }
@@ -291,8 +299,8 @@ static bool need_operand(struct reader *r, int64_t cells[4]) {
         r->at += word.length;
         return true;
     }
-    cells[0] = take_sign(r, '&') ? OPERAND_ADDRESS : OPERAND_VAR;
-    return need_variable(r, cells[0] == OPERAND_ADDRESS ? "a variable" : "an operand", cells + 1);
+    cells[0] = take_sign(r, '&') ? GILTHOREN_OPERAND_ADDRESS : GILTHOREN_OPERAND_VAR;
+    return need_variable(r, cells[0] == GILTHOREN_OPERAND_ADDRESS ? "a variable" : "an operand", cells + 1);
 }
 
 /* -- instructions -- */
@@ -315,7 +323,7 @@ static void put_row(struct reader *r, const struct row *row) {
 static bool read_call(struct reader *r, struct row *row) {
     size_t count_cell = cells_of(&r->body) + 6;
     int64_t argument[4], count = 0;
-    row->kind = INSTR_CALL;
+    row->kind = GILTHOREN_INSTR_CALL;
     if (!need_count(r, "the number of a symbol", &row->left[0]) || !need_sign(r, '(')) return false;
     put_row(r, row);
     while (!take_sign(r, ')')) {
@@ -331,10 +339,10 @@ static bool read_call(struct reader *r, struct row *row) {
 /* Behind an operand that starts a right side: an operation and its second operand, or nothing. */
 static bool read_copy_or_binary(struct reader *r, struct row *row) {
     if (!need_operand(r, row->left)) return false;
-    row->kind = INSTR_COPY;
+    row->kind = GILTHOREN_INSTR_COPY;
     if (!at_end(r)) {
         struct word word = peek_word(r);
-        row->kind = INSTR_BINARY;
+        row->kind = GILTHOREN_INSTR_BINARY;
         row->operation = position(word, sheet_binary_words, SHEET_BINARY);
         if (row->operation < 0) return expected(r, OPERATIONS);
         r->at += word.length;
@@ -354,7 +362,7 @@ static bool read_assignment(struct reader *r, struct row *row) {
     struct word word = peek_word(r);
     int unary = position(word, sheet_unary_words, SHEET_UNARY);
     if (unary < 0 && !is_word(word, "cast")) return read_copy_or_binary(r, row);
-    row->kind = unary < 0 ? INSTR_CAST : INSTR_UNARY;
+    row->kind = unary < 0 ? GILTHOREN_INSTR_CAST : GILTHOREN_INSTR_UNARY;
     row->operation = unary < 0 ? 0 : unary;
     r->at += word.length;
     if (!need_operand(r, row->left)) return false;
@@ -364,10 +372,10 @@ static bool read_assignment(struct reader *r, struct row *row) {
 
 /* Behind `jump`: a label, and the condition that must not hold if there is one. */
 static bool read_jump(struct reader *r, struct row *row) {
-    row->kind = INSTR_JUMP;
+    row->kind = GILTHOREN_INSTR_JUMP;
     if (!need_label(r, &row->operation)) return false;
     if (take_word(r, "unless")) {
-        row->kind = INSTR_JUMP_IF_NOT;
+        row->kind = GILTHOREN_INSTR_JUMP_IF_NOT;
         if (!need_operand(r, row->left)) return false;
     }
     put_row(r, row);
@@ -384,7 +392,7 @@ static bool is_label_line(struct reader *r) {
 }
 
 static bool read_label_line(struct reader *r, struct row *row) {
-    row->kind = INSTR_LABEL;
+    row->kind = GILTHOREN_INSTR_LABEL;
     if (!need_label(r, &row->operation)) return false;
     put_row(r, row);
     return true;
@@ -396,13 +404,13 @@ static bool read_instruction(struct reader *r) {
     if (take_word(r, "jump")) return read_jump(r, &row);
     if (take_word(r, "call")) return read_call(r, &row);
     if (take_word(r, "return")) {
-        row.kind = INSTR_RETURN;
+        row.kind = GILTHOREN_INSTR_RETURN;
         if (!need_operand(r, row.left)) return false;
     } else if (take_word(r, "zero")) {
-        row.kind = INSTR_ZERO;
+        row.kind = GILTHOREN_INSTR_ZERO;
         if (!need_variable(r, "a variable", row.dest)) return false;
     } else if (take_word(r, "comment")) {
-        row.kind = INSTR_COMMENT;
+        row.kind = GILTHOREN_INSTR_COMMENT;
     } else {
         return read_assignment(r, &row);
     }
@@ -530,16 +538,23 @@ static bool read_line(struct reader *r) {
     return keyword->read(r);
 }
 
-/* Sets the reader on the next line, and `text` behind it. A comment is left out. */
-static void next_line(struct reader *r, const char **text, const char *end) {
-    const char *newline = memchr(*text, '\n', (size_t)(end - *text));
-    r->line++;
-    r->at = *text;
-    r->end = newline ? newline : end;
-    *text = newline ? newline + 1 : end;
+/* Sets the reader on the next line; false if there is none. A comment is left out. */
+static bool next_line(struct reader *r, struct lines *lines) {
+    if (!lines_next(lines, &r->at, &r->end)) return false;
+    r->line = lines->number;
     const char *comment = memchr(r->at, '#', (size_t)(r->end - r->at));
     if (comment) r->end = comment;
-    while (r->end > r->at && (r->end[-1] == ' ' || r->end[-1] == '\t' || r->end[-1] == '\r')) r->end--;
+    while (r->end > r->at && is_blank(r->end[-1])) r->end--;
+    return true;
+}
+
+static bool read_lines(struct reader *r, const struct bytes *text) {
+    struct lines lines = text_lines((const char *)text->at, text->count);
+    const char *wide = text_wide(text);
+    if (wide) return fail(r, "expected a text in UTF-8, found %s", wide);
+    while (next_line(r, &lines))
+        if (!at_end(r) && !read_line(r)) return false;
+    return true;
 }
 
 /* -- the input from its parts -- */
@@ -588,15 +603,10 @@ static void reader_clear(struct reader *r) {
     part_clear(&r->raw);
 }
 
-bool sheet_read(struct sheet_text *sheet, const char *text, size_t bytes, struct sheet_error *error) {
-    struct reader r = {.sheet = sheet, .error = error, .returns = {0, -1}};
+bool sheet_read(struct sheet_text *sheet, const struct bytes *text, struct sheet_error *error) {
+    struct reader r = {.sheet = sheet, .error = error, .returns = {GILTHOREN_TYPE_NONE, -1}};
     struct part input = {{0}, {0}};
-    const char *end = bytes ? text + bytes : text;
-    bool good = true;
-    while (good && text != end) {
-        next_line(&r, &text, end);
-        good = at_end(&r) || read_line(&r);
-    }
+    bool good = read_lines(&r, text);
     if (r.raw_line) append(&input, &r.raw);
     else join(&r, &input);
     sheet->input = input.cells;

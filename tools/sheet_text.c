@@ -1,7 +1,7 @@
 /* What reading and writing of sheets share: words, sizes, names, the parts of an input. */
 #include "sheet_text.h"
 
-#include <stdio.h>
+#include <errno.h>
 #include <string.h>
 
 const char *const sheet_type_words[SHEET_TYPES] = {"none",       "long", "ulong", "short", "ushort",  "float", "shortfloat",
@@ -52,25 +52,46 @@ bool sheet_named(const struct sheet_names *names, const char *word, size_t lengt
 
 bool sheet_take(struct sheet_text *sheet, const struct bytes *file, struct sheet_error *error) {
     size_t first = file->count < CELL ? file->count : CELL;
-    if (first == 0 || !memchr(file->at, 0, first)) return sheet_read(sheet, (const char *)file->at, file->count, error);
+    bool has_zero = first > 0 && memchr(file->at, 0, first);
+    if (!has_zero || text_wide(file)) return sheet_read(sheet, file, error);
     bytes_add(&sheet->input, file->at, file->count);
     return true;
 }
 
-bool sheet_open(struct sheet_text *sheet, const char *path, const char *before) {
-    struct bytes file = {0};
-    struct sheet_error error;
+void sheet_say(const struct sheet_error *error, const char *before) {
+    if (error->line > 0) fprintf(stderr, "%sline %zu: %s\n", before, error->line, error->message);
+    else fprintf(stderr, "%s%s\n", before, error->message);
+}
+
+/* Reads a file. On false `error` has the reason. */
+static bool read_file(struct bytes *file, const char *path, struct sheet_error *error) {
     FILE *from = fopen(path, "rb");
-    bool good = from && bytes_read(&file, from);
+    bool good = from && bytes_read(file, from);
+    error->line = 0;
+    if (!good) snprintf(error->message, sizeof error->message, "cannot be read: %s", strerror(errno));
     if (from) fclose(from);
-    if (!good) {
-        fprintf(stderr, "%s%s: cannot be read\n", before, path);
-    } else if (!sheet_take(sheet, &file, &error)) {
-        fprintf(stderr, "%s%s: line %zu: %s\n", before, path, error.line, error.message);
-        good = false;
-    }
-    bytes_clear(&file);
     return good;
+}
+
+bool sheet_open(struct sheet_text *sheet, const char *path, const char *before) {
+    struct bytes file = {0}, name = {0};
+    struct sheet_error error;
+    bytes_print(&name, "%s", before);
+    text_show(&name, path, strlen(path));
+    bytes_add(&name, ": ", sizeof ": ");
+    bool good = read_file(&file, path, &error) && sheet_take(sheet, &file, &error);
+    if (!good) sheet_say(&error, (char *)name.at);
+    bytes_clear(&file);
+    bytes_clear(&name);
+    return good;
+}
+
+size_t sheet_entry(size_t variable) {
+    return GILTHOREN_CELLS_HEAD + GILTHOREN_CELLS_TYPE * variable;
+}
+
+size_t sheet_body(const uint8_t *sheet) {
+    return sheet_entry((size_t)cell_at(sheet, 0)) + GILTHOREN_CELLS_VARIABLE * (size_t)cell_at(sheet, 1);
 }
 
 static void names_clear(struct sheet_names *names) {

@@ -4,7 +4,9 @@
 #ifndef GILTHOREN_SHEET_TEXT_H
 #define GILTHOREN_SHEET_TEXT_H
 
+#include "gilthoren.h"
 #include "store.h"
+#include "text.h"
 
 /* Names of variables or of labels. */
 struct sheet_names {
@@ -20,9 +22,10 @@ struct sheet_text {
     struct sheet_names variables, labels;
 };
 
+/* A message has room for the longest one, which shows two pieces of the text. */
 struct sheet_error {
-    size_t line; /* from 1 */
-    char message[200];
+    size_t line; /* from 1; 0 for an error of the whole text */
+    char message[160 + 2 * SHOWN_ROOM];
 };
 
 /* Tables and sheet in an input, as gilthoren_lower takes them. */
@@ -33,17 +36,19 @@ struct sheet_parts {
 
 /* Refusal 1, 2 or 3 and its cell; number 0 for tables and a sheet that are readable. */
 struct sheet_refusal {
-    int number;
+    uint64_t number;
     size_t cell;
 };
 
 /* Reads a text. On false `error` tells the line and what was expected there. */
-bool sheet_read(struct sheet_text *sheet, const char *text, size_t bytes, struct sheet_error *error);
-/* Takes cells or text, whichever the bytes are: cells have a zero among their first eight bytes, a text has none. */
+bool sheet_read(struct sheet_text *sheet, const struct bytes *text, struct sheet_error *error);
+/* Takes cells or text, whichever the bytes are: cells have a zero among their first eight bytes, a text in UTF-8 has none. */
 bool sheet_take(struct sheet_text *sheet, const struct bytes *file, struct sheet_error *error);
 
 /* The same of the file at a path; what is wrong with it is said on standard error, behind `before`. */
 bool sheet_open(struct sheet_text *sheet, const char *path, const char *before);
+/* Says what is wrong, behind `before`, on standard error. */
+void sheet_say(const struct sheet_error *error, const char *before);
 void sheet_clear(struct sheet_text *sheet);
 
 /* Writes an input as text, in words if tables and sheet are readable, else as raw cells. The answer says which. */
@@ -57,27 +62,11 @@ const char *sheet_name(const struct sheet_names *names, size_t owner);
 /* The variable or label of a name; false if there is none. */
 bool sheet_named(const struct sheet_names *names, const char *word, size_t length, size_t *owner);
 
-/* Words by their numbers: type codes, positions in `BinaryOp` and in `UnaryOp`. */
-enum { SHEET_TYPES = 13, SHEET_BINARY = 18, SHEET_UNARY = 3 };
+/* Words by their numbers: types, operations of Binary and of Unary. */
+enum { SHEET_TYPES = GILTHOREN_TYPE_NULL + 1, SHEET_BINARY = GILTHOREN_BINARY_REM + 1, SHEET_UNARY = GILTHOREN_UNARY_NOT + 1 };
 extern const char *const sheet_type_words[SHEET_TYPES];
 extern const char *const sheet_binary_words[SHEET_BINARY];
 extern const char *const sheet_unary_words[SHEET_UNARY];
-
-/* Positions in Krc's `Operand` and `Instr`. */
-enum sheet_operand { OPERAND_VAR, OPERAND_INT, OPERAND_FLOAT, OPERAND_BOOL, OPERAND_ADDRESS, OPERAND_DATA_ADDRESS, OPERAND_NULL };
-enum sheet_instr {
-    INSTR_COPY,
-    INSTR_UNARY,
-    INSTR_BINARY,
-    INSTR_CAST,
-    INSTR_ZERO,
-    INSTR_CALL,
-    INSTR_LABEL,
-    INSTR_JUMP,
-    INSTR_JUMP_IF_NOT,
-    INSTR_RETURN,
-    INSTR_COMMENT
-};
 
 /* Bytes of a variable: 0 for one with no width. Code and count are as a readable sheet has them. */
 int64_t sheet_type_size(int64_t code, int64_t count);
@@ -86,7 +75,8 @@ int64_t sheet_type_size(int64_t code, int64_t count);
  * no width. */
 int64_t sheet_offset_behind(int64_t end, int64_t code, int64_t count);
 
-/* Cells before the variable types. */
-enum { SHEET_HEAD = 6 };
+/* The cell of a variable's entry, and that of the first instruction of a readable sheet. */
+size_t sheet_entry(size_t variable);
+size_t sheet_body(const uint8_t *sheet);
 
 #endif

@@ -1,24 +1,13 @@
 /* Tables and sheet to text. The scan over the cells is the layout's: it stops at the first cell that is refused. */
 #include "sheet_text.h"
 
-enum { BAD_TABLE = 1, TORN_SHEET = 2, OVERSIZE = 3 };
-enum {
-    MAX_STRINGS = 256,
-    MAX_FLOATS = 256,
-    MAX_VARIABLES = 256,
-    MAX_PARAMETERS = 256,
-    MAX_LABELS = 256,
-    MAX_INSTRUCTIONS = 4096,
-    MAX_ARGUMENTS = 64,
-    MAX_COUNT = 1048576,
-    MAX_OFFSET = 1048576
-};
+#include <inttypes.h>
 
 /* A scan over tables or sheet. After a refusal it stays at its cell, and every cell reads as its least value. */
 struct scan {
     const uint8_t *at;
     size_t bytes, cell;
-    int wrong; /* the refusal for a cell off the layout */
+    uint64_t wrong; /* the refusal for a cell off the layout */
     struct sheet_refusal refusal;
     struct bytes *text;
     const uint8_t *types; /* the variables' entries, once they are read */
@@ -31,12 +20,12 @@ struct variable {
 
 /* -- cells -- */
 
-static void refuse(struct scan *s, int number, size_t cell) {
+static void refuse(struct scan *s, uint64_t number, size_t cell) {
     if (s->refusal.number == 0) s->refusal = (struct sheet_refusal){number, cell};
 }
 
 /* Refuses the cell that is next; it reads as its least value. */
-static int64_t refuse_next(struct scan *s, int number, int64_t low) {
+static int64_t refuse_next(struct scan *s, uint64_t number, int64_t low) {
     refuse(s, number, s->cell);
     return low;
 }
@@ -51,7 +40,7 @@ static int64_t take_limited(struct scan *s, int64_t low, int64_t high, int64_t l
     if (s->bytes / CELL <= s->cell) return refuse_next(s, s->wrong, low);
     int64_t value = cell_at(s->at, s->cell);
     if (value < low || value > high) return refuse_next(s, s->wrong, low);
-    if (value > limit) return refuse_next(s, OVERSIZE, low);
+    if (value > limit) return refuse_next(s, GILTHOREN_OVERSIZE, low);
     s->cell++;
     return value;
 }
@@ -76,8 +65,8 @@ static void take_zeros(struct scan *s, int count) {
 static struct variable take_variable(struct scan *s) {
     struct variable v;
     v.id = take_id(s);
-    v.code = take(s, 1, SHEET_TYPES - 1);
-    v.count = take_count(s, -1, MAX_COUNT);
+    v.code = take(s, GILTHOREN_TYPE_LONG, GILTHOREN_TYPE_NULL);
+    v.count = take_count(s, -1, GILTHOREN_MOST_COUNT);
     return v;
 }
 
@@ -108,21 +97,21 @@ static void write_int(struct scan *s) {
 }
 
 static void write_operand(struct scan *s) {
-    int64_t kind = take(s, OPERAND_VAR, OPERAND_NULL);
-    if (kind == OPERAND_INT) {
+    int64_t kind = take(s, GILTHOREN_OPERAND_VAR, GILTHOREN_OPERAND_NULL);
+    if (kind == GILTHOREN_OPERAND_INT) {
         write_int(s);
         return;
     }
-    if (kind == OPERAND_VAR || kind == OPERAND_ADDRESS) {
-        if (kind == OPERAND_ADDRESS) bytes_print(s->text, "&");
+    if (kind == GILTHOREN_OPERAND_VAR || kind == GILTHOREN_OPERAND_ADDRESS) {
+        if (kind == GILTHOREN_OPERAND_ADDRESS) bytes_print(s->text, "&");
         put_variable(s, take_variable(s));
         return;
     }
-    if (kind == OPERAND_FLOAT) bytes_print(s->text, "f%lld", (long long)take_id(s));
-    if (kind == OPERAND_DATA_ADDRESS) bytes_print(s->text, "s%lld", (long long)take_id(s));
-    if (kind == OPERAND_BOOL) bytes_print(s->text, "%s", take(s, 0, 1) ? "true" : "false");
-    if (kind == OPERAND_NULL) bytes_print(s->text, "null");
-    take_zeros(s, kind == OPERAND_NULL ? 3 : 2);
+    if (kind == GILTHOREN_OPERAND_FLOAT) bytes_print(s->text, "f%lld", (long long)take_id(s));
+    if (kind == GILTHOREN_OPERAND_DATA_ADDRESS) bytes_print(s->text, "s%lld", (long long)take_id(s));
+    if (kind == GILTHOREN_OPERAND_BOOL) bytes_print(s->text, "%s", take(s, 0, 1) ? "true" : "false");
+    if (kind == GILTHOREN_OPERAND_NULL) bytes_print(s->text, "null");
+    take_zeros(s, kind == GILTHOREN_OPERAND_NULL ? 3 : 2);
 }
 
 /* -- instructions: each starts behind its kind -- */
@@ -171,7 +160,7 @@ static void write_call(struct scan *s) {
     if (take(s, 0, 1)) write_dest(s);
     else take_zeros(s, 3);
     bytes_print(s->text, "call %lld(", (long long)take_id(s));
-    int64_t count = take_count(s, 0, MAX_ARGUMENTS);
+    int64_t count = take_count(s, 0, GILTHOREN_MOST_ARGUMENTS);
     take_zeros(s, 6);
     for (int64_t i = 0; i < count && !s->refusal.number; i++) {
         bytes_print(s->text, "%s", i > 0 ? ", " : "");
@@ -204,18 +193,18 @@ static void write_comment(struct scan *s) {
 }
 
 static void write_instruction(struct scan *s) {
-    switch ((enum sheet_instr)take(s, INSTR_COPY, INSTR_COMMENT)) {
-    case INSTR_COPY: write_copy(s, ""); break;
-    case INSTR_UNARY: write_unary(s); break;
-    case INSTR_BINARY: write_binary(s); break;
-    case INSTR_CAST: write_copy(s, "cast "); break;
-    case INSTR_ZERO: write_zero(s); break;
-    case INSTR_CALL: write_call(s); break;
-    case INSTR_LABEL: write_label(s, "", ":"); break;
-    case INSTR_JUMP: write_label(s, "jump ", ""); break;
-    case INSTR_JUMP_IF_NOT: write_jump_if_not(s); break;
-    case INSTR_RETURN: write_return(s); break;
-    case INSTR_COMMENT: write_comment(s); break;
+    switch ((enum gilthoren_instr)take(s, GILTHOREN_INSTR_COPY, GILTHOREN_INSTR_COMMENT)) {
+    case GILTHOREN_INSTR_COPY: write_copy(s, ""); break;
+    case GILTHOREN_INSTR_UNARY: write_unary(s); break;
+    case GILTHOREN_INSTR_BINARY: write_binary(s); break;
+    case GILTHOREN_INSTR_CAST: write_copy(s, "cast "); break;
+    case GILTHOREN_INSTR_ZERO: write_zero(s); break;
+    case GILTHOREN_INSTR_CALL: write_call(s); break;
+    case GILTHOREN_INSTR_LABEL: write_label(s, "", ":"); break;
+    case GILTHOREN_INSTR_JUMP: write_label(s, "jump ", ""); break;
+    case GILTHOREN_INSTR_JUMP_IF_NOT: write_jump_if_not(s); break;
+    case GILTHOREN_INSTR_RETURN: write_return(s); break;
+    case GILTHOREN_INSTR_COMMENT: write_comment(s); break;
     }
     bytes_print(s->text, "\n");
 }
@@ -223,10 +212,10 @@ static void write_instruction(struct scan *s) {
 /* -- tables and sheet -- */
 
 static void write_tables(struct scan *s) {
-    int64_t strings = take(s, 0, MAX_STRINGS);
+    int64_t strings = take(s, 0, GILTHOREN_MOST_STRINGS);
     if (strings > 0) bytes_print(s->text, "strings %lld\n", (long long)strings);
     for (int i = 0; !at_end(s) && !s->refusal.number; i++) {
-        if (i == MAX_FLOATS) refuse(s, s->wrong, s->cell);
+        if (i == GILTHOREN_MOST_FLOATS) refuse(s, s->wrong, s->cell);
         bytes_print(s->text, "float %s  # f%d\n", take(s, 0, 1) ? "short" : "long", i);
     }
 }
@@ -234,11 +223,11 @@ static void write_tables(struct scan *s) {
 /* The variables; the count of the one whose offset passes its limit is oversize. */
 static void write_variables(struct scan *s, int64_t variables) {
     int64_t offset = 0;
-    s->types = s->at + SHEET_HEAD * CELL;
+    s->types = s->at + sheet_entry(0) * CELL;
     for (int64_t i = 0; i < variables && !s->refusal.number; i++) {
-        int64_t code = take(s, 1, SHEET_TYPES - 1), count = take_count(s, -1, MAX_COUNT);
+        int64_t code = take(s, GILTHOREN_TYPE_LONG, GILTHOREN_TYPE_NULL), count = take_count(s, -1, GILTHOREN_MOST_COUNT);
         offset = sheet_offset_behind(offset, code, count);
-        if (offset > MAX_OFFSET) refuse(s, OVERSIZE, s->cell - 1);
+        if (offset > GILTHOREN_MOST_COUNT) refuse(s, GILTHOREN_OVERSIZE, s->cell - 1);
         bytes_print(s->text, "variable ");
         put_type(s, code, count);
         bytes_print(s->text, "  # v%lld\n", (long long)i);
@@ -256,27 +245,27 @@ static void write_parameters(struct scan *s, int64_t parameters) {
 
 /* The return type, 0 and -1 for none. */
 static void take_returns(struct scan *s, int64_t *code, int64_t *count) {
-    *code = take(s, 0, SHEET_TYPES - 1);
-    *count = *code == 0 ? take(s, -1, -1) : take_count(s, -1, MAX_COUNT);
+    *code = take(s, GILTHOREN_TYPE_NONE, GILTHOREN_TYPE_NULL);
+    *count = *code == GILTHOREN_TYPE_NONE ? take(s, -1, -1) : take_count(s, -1, GILTHOREN_MOST_COUNT);
 }
 
 static void write_sheet(struct scan *s) {
     int64_t code, count;
-    int64_t variables = take_count(s, 0, MAX_VARIABLES), parameters = take_count(s, 0, MAX_PARAMETERS);
-    int64_t labels = take_count(s, 0, MAX_LABELS);
+    int64_t variables = take_count(s, 0, GILTHOREN_MOST_VARIABLES), parameters = take_count(s, 0, GILTHOREN_MOST_PARAMETERS);
+    int64_t labels = take_count(s, 0, GILTHOREN_MOST_LABELS);
     take_returns(s, &code, &count);
-    int64_t instructions = take_count(s, 0, MAX_INSTRUCTIONS);
+    int64_t instructions = take_count(s, 0, GILTHOREN_MOST_INSTRUCTIONS);
     write_variables(s, variables);
     write_parameters(s, parameters);
     if (labels > 0) bytes_print(s->text, "labels %lld\n", (long long)labels);
-    if (code != 0) {
+    if (code != GILTHOREN_TYPE_NONE) {
         bytes_print(s->text, "returns ");
         put_type(s, code, count);
         bytes_print(s->text, "\n");
     }
     if (instructions > 0) bytes_print(s->text, "\n");
     for (int64_t i = 0; i < instructions && !s->refusal.number; i++) write_instruction(s);
-    if (!at_end(s)) refuse(s, TORN_SHEET, s->cell);
+    if (!at_end(s)) refuse(s, GILTHOREN_TORN_SHEET, s->cell);
 }
 
 /* -- raw cells -- */
@@ -284,8 +273,8 @@ static void write_sheet(struct scan *s) {
 static void write_raw(const struct bytes *input, struct sheet_refusal refusal, struct bytes *text) {
     enum { A_LINE = 13 };
     size_t cells = input->count / CELL;
-    const char *slice = refusal.number == BAD_TABLE ? "tables" : "sheet";
-    bytes_print(text, "# not readable: refused %d, cell %zu of the %s\n", refusal.number, refusal.cell, slice);
+    const char *slice = refusal.number == GILTHOREN_BAD_TABLE ? "tables" : "sheet";
+    bytes_print(text, "# not readable: refused %" PRIu64 ", cell %zu of the %s\n", refusal.number, refusal.cell, slice);
     for (size_t i = 0; i < cells; i++) {
         if (i % A_LINE == 0) bytes_print(text, "%scells", i > 0 ? "\n" : "");
         bytes_print(text, " %lld", (long long)cell_at(input->at, i));
@@ -298,12 +287,12 @@ static void write_raw(const struct bytes *input, struct sheet_refusal refusal, s
 }
 
 struct sheet_refusal sheet_write(const struct bytes *input, struct bytes *text) {
-    struct sheet_refusal refusal = {BAD_TABLE, 0};
+    struct sheet_refusal refusal = {GILTHOREN_BAD_TABLE, 0};
     struct sheet_parts parts;
     struct bytes words = {0};
     if (sheet_split(input, &parts)) {
-        struct scan tables = {.at = parts.tables, .bytes = parts.tables_bytes, .wrong = BAD_TABLE, .text = &words};
-        struct scan sheet = {.at = parts.sheet, .bytes = parts.sheet_bytes, .wrong = TORN_SHEET, .text = &words};
+        struct scan tables = {.at = parts.tables, .bytes = parts.tables_bytes, .wrong = GILTHOREN_BAD_TABLE, .text = &words};
+        struct scan sheet = {.at = parts.sheet, .bytes = parts.sheet_bytes, .wrong = GILTHOREN_TORN_SHEET, .text = &words};
         write_tables(&tables);
         if (!tables.refusal.number) write_sheet(&sheet);
         refusal = tables.refusal.number ? tables.refusal : sheet.refusal;

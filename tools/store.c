@@ -1,6 +1,7 @@
-/* Growing lists, and cells in them. */
+/* Growing lists, and cells in them; reading and writing of streams. */
 #include "store.h"
 
+#include <errno.h>
 #include <stdarg.h>
 #include <stdlib.h>
 #include <string.h>
@@ -9,7 +10,7 @@ static void *grown(void *at, size_t bytes) {
     void *more = realloc(at, bytes);
     if (!more) {
         fputs("out of memory\n", stderr);
-        exit(3);
+        exit(STATUS_BROKEN);
     }
     return more;
 }
@@ -57,6 +58,12 @@ bool bytes_read(struct bytes *list, FILE *from) {
 bool bytes_write(const struct bytes *list, FILE *to) {
     size_t written = list->count ? fwrite(list->at, 1, list->count, to) : 0;
     return written == list->count && fflush(to) == 0;
+}
+
+int bytes_end(const struct bytes *list, const char *program, int status) {
+    if (bytes_write(list, stdout)) return status;
+    fprintf(stderr, "%s: cannot write: %s\n", program, strerror(errno));
+    return STATUS_BROKEN;
 }
 
 void numbers_add(struct numbers *list, size_t number) {

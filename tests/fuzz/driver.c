@@ -93,7 +93,7 @@ static uint64_t lower(const struct lent *t, const struct lent *s, const struct l
     return gilthoren_lower(t->bytes, t->length, s->bytes, s->length, r->bytes, r->length, place);
 }
 
-/* Numbers and places that 01 allows, and the record bytes that the answer allows to be written. */
+/* Numbers and places that docs/FORMAT.md allows, and the record bytes that the answer allows to be written. */
 static void check_answer(uint64_t answer, uint64_t place, const struct lent *t, const struct lent *s, const struct lent *r) {
     must(answer <= 9 && answer != 8, "the number");
     must(answer != 1 || place <= t->length / 8, "the tables' cell");
