@@ -1,11 +1,11 @@
 /* Gilthoren: the proved lowering from placement rules to x86-64 records.
  *
- * Tables, sheets and records are byte slices of cells: eight bytes each, little-endian, two's complement. docs/FORMAT.md has their parts, and
+ * Tables, sheets, packs and records are byte slices of cells: eight bytes each, little-endian, two's complement. docs/FORMAT.md has their parts, and
  * below are the numbers. A slice is a pointer and its length in bytes; the pointer is not null, even where the length is 0, and a length is
  * below 2^63.
  *
- * Aliasing: the record bytes and `place` overlap nothing else that is lent to the same call, and nobody else writes any of it or
- * reads the record bytes or `place` while the call runs. Tables and sheet may overlap each other; they are never written. Calls on
+ * Aliasing: the bytes and numbers that a call writes overlap nothing else that is lent to the same call, and nobody else writes any of it or
+ * reads what it writes while the call runs. What a call only reads may overlap; it is never written. Calls on
  * different memory may run at the same time: the library keeps nothing between calls and allocates nothing.
  *
  * Every call ends, for any bytes.
@@ -37,7 +37,8 @@ enum gilthoren_answer {
     GILTHOREN_ODD_WIDTH = 6,       /* a size other than 1, 2, 4 or 8; as for 4 */
     GILTHOREN_NO_LOWERING = 7,     /* an instruction that Krc does not lower; as for 4 */
     GILTHOREN_REGISTERS_SPENT = 8, /* reserved and never answered: arguments beyond the registers go to the stack */
-    GILTHOREN_PAGE_FULL = 9        /* the number of records needed: the record bytes are fewer than 64 times as many */
+    GILTHOREN_PAGE_FULL = 9,       /* the number of records needed: the record bytes are fewer than 64 times as many */
+    GILTHOREN_BAD_PACK = 13        /* the first wrong, missing or left-over cell of the pack */
 };
 
 /* -- sheets -- */
@@ -50,7 +51,8 @@ enum gilthoren_limit {
     GILTHOREN_MOST_LABELS = 256,
     GILTHOREN_MOST_INSTRUCTIONS = 4096,
     GILTHOREN_MOST_ARGUMENTS = 64, /* of a call */
-    GILTHOREN_MOST_COUNT = 1048576 /* of a type; and the offset of a variable */
+    GILTHOREN_MOST_COUNT = 1048576, /* of a type; and the offset of a variable */
+    GILTHOREN_MOST_SHEETS = 256     /* of a pack */
 };
 
 /* How many cells the parts of a sheet have. */
@@ -264,6 +266,17 @@ uint64_t gilthoren_lower(const uint8_t *tables, size_t tables_bytes, const uint8
  * first instruction that breaks a condition or that the lowering refuses. Of a label placed twice the second place is at fault and
  * every later one, and of a jump to a label that stands nowhere the jump. */
 uint64_t gilthoren_plain(const uint8_t *tables, size_t tables_bytes, const uint8_t *sheet, size_t sheet_bytes, uint64_t *place);
+
+/* Finds a sheet in a pack by its number, from 0. After 0 the sheet is the `length` bytes of the pack from byte `from` on, and `place` holds 0.
+ * Else the answer is GILTHOREN_BAD_PACK, whatever the number is, or GILTHOREN_NO_ENTRY with 0 in `place` for a number that is not below the
+ * count of sheets, and `from` and `length` hold 0. The three pointers are to different memory. */
+uint64_t gilthoren_pack_sheet(const uint8_t *pack, size_t pack_bytes, uint64_t number, uint64_t *place, uint64_t *from, uint64_t *length);
+
+/* Lowers a sheet where it stands in its pack: GILTHOREN_BAD_PACK, then GILTHOREN_NO_ENTRY as above, then what gilthoren_lower answers for that
+ * sheet, with what is proved of it. Changing one sheet of a pack, its length kept, alters the answer for no other; exchanging good tables for
+ * other good ones alters none for a sheet that names no string and no float. */
+uint64_t gilthoren_pack_lower(const uint8_t *tables, size_t tables_bytes, const uint8_t *pack, size_t pack_bytes, uint64_t number,
+                              uint8_t *records, size_t records_bytes, uint64_t *place);
 
 #ifdef __cplusplus
 }

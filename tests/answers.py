@@ -90,8 +90,8 @@ def choose(cases, count, most):
 def modules(count, most, jobs):
     """The equations of `count` cases of at most `most` bytes of tables and sheet, as `jobs` modules, and what they are about."""
     uses, line = unfolding(["steps"])
-    cases = choose(vectors.load(ROOT / "vectors/answers.bin"), count, most)
-    texts = {f"answers{k}": HEADER % uses + "\n".join(l for c in cases[k::jobs] for l in equations(c, line)) for k in range(jobs)}
+    cases = choose(vectors.load(ROOT / "vectors/answers.bin"), count, most) if count else []
+    texts = {f"answers{k}": HEADER % uses + "\n".join(l for c in cases[k::jobs] for l in equations(c, line)) for k in range(jobs) if cases}
     counts = collections.Counter(c.number for c in cases)
     refused = "".join(f", {counts[number]} refused {number}" for number in sorted(counts) if number > 0)
     return texts, f"{len(cases)} answers are the oracle's ({counts[0]} accepted{refused})"

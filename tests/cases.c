@@ -55,13 +55,57 @@ struct answer cases_next(struct cases *c) {
 struct cases cases_open(const char *path) {
     struct cases c = {.at = 8};
     FILE *from = path ? fopen(path, "rb") : NULL;
-    if (!from || !bytes_read(&c.file, from) || c.file.count < 8 || memcmp(c.file.at, "KRCVEC01", 8) != 0) cases_stop("no file of answers", 0);
+    if (!from || !bytes_read(&c.file, from) || c.file.count < 8 || memcmp(c.file.at, "KRCVEC02", 8) != 0) cases_stop("no file of answers", 0);
     fclose(from);
     c.count = next_number(&c);
     return c;
 }
 
+const struct shape shapes[EXPORTS] = {
+    [PACK_SHEET] = {.reads = 1, .takes = 1, .writes = 0, .leaves = 3},
+    [PACK_LOWER] = {.reads = 2, .takes = 1, .writes = 1, .leaves = 1},
+};
+
+void cases_calls(struct cases *c) {
+    c->in_calls = true;
+    c->calls = next_number(c);
+}
+
+struct call calls_next(struct cases *c) {
+    struct call call = {.takes = 0};
+    uint64_t export = next_number(c);
+    if (export >= EXPORTS) cases_stop("an export that is not there", export);
+    call.export = (enum export)export;
+    const struct shape *shape = &shapes[export];
+    for (size_t i = 0; i < shape->reads; i++) next_slice(c, &call.reads[i]);
+    if (shape->takes) call.takes = next_number(c);
+    for (size_t i = 0; i < shape->writes; i++) {
+        call.writes[i].length = next_number(c);
+        next_slice(c, &call.writes[i].before);
+    }
+    for (size_t i = 0; i <= shape->leaves; i++) call.answers[i] = next_number(c);
+    for (size_t i = 0; i < shape->writes; i++) next_slice(c, &call.writes[i].after);
+    return call;
+}
+
+void call_clear(struct call *call) {
+    for (size_t i = 0; i < MOST_READS; i++) bytes_clear(&call->reads[i]);
+    for (size_t i = 0; i < MOST_WRITES; i++) {
+        bytes_clear(&call->writes[i].before);
+        bytes_clear(&call->writes[i].after);
+    }
+}
+
+static void skip_calls(struct cases *c) {
+    cases_calls(c);
+    for (uint64_t i = 0; i < c->calls; i++) {
+        struct call call = calls_next(c);
+        call_clear(&call);
+    }
+}
+
 void cases_close(struct cases *c) {
+    if (!c->in_calls) skip_calls(c);
     if (c->at != c->file.count) cases_stop("bytes are left over", c->count);
     bytes_clear(&c->file);
 }

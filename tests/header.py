@@ -200,7 +200,7 @@ def page_registers():
 def page_limits():
     """`256 strings`, and `1048576 for the count`."""
     said = section("Limits").replace("\n", " ")
-    found = [(f"most {name}", n) for n, name in re.findall(r"(\d+) (strings|floats|variables|parameters|labels|instructions|arguments)\b", said)]
+    found = [(f"most {name}", n) for n, name in re.findall(r"(\d+) (strings|floats|variables|parameters|labels|instructions|arguments|sheets)\b", said)]
     return numbered(found + [("most count", n) for n in re.findall(r"(\d+) for the count", said)])
 
 

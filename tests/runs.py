@@ -158,7 +158,7 @@ def modules(count, jobs):
     uses, line = unfolding(["x86", "steps"])
     header = HEADER.replace("STACKED", str(STACKED)).replace("BASE", str(BASE)).replace("AROUND", str(AROUND)).replace("TABLES", numbers(TABLES)) % uses
     some = list(enumerate(runs))
-    texts = {f"runs{k}": header + "\n".join(l for n, run in some[k::jobs] for l in equations(n, run, line)) for k in range(jobs)}
+    texts = {f"runs{k}": header + "\n".join(l for n, run in some[k::jobs] for l in equations(n, run, line)) for k in range(jobs) if runs}
     ends = [sum(1 for run in runs if run.end == e) for e in (0, 1, 2)]
     return texts, (f"{len(runs)} runs ({ends[0]} with no instruction left, {ends[1]} by a Return, {ends[2]} by a fault; "
                    f"{sum(run.steps for run in runs)} steps) are F's and the records'")

@@ -5,10 +5,10 @@ ROOT = pathlib.Path(__file__).resolve().parent.parent
 DEFINITIONS = ["cells", "x86", "ir", "layout", "codegen", "machine"]
 
 
-def unfoldable():
+def unfoldable(crates):
     """Every definition that unfolds only where it is named, by module."""
     found = {}
-    for crate in DEFINITIONS:
+    for crate in DEFINITIONS + crates:
         for path in sorted((ROOT / "crates" / crate / "specs").glob("*.antt")):
             names = re.findall(r"^unfoldable pub (\S+) :", path.read_text(encoding="utf-8"), re.M)
             if names:
@@ -16,19 +16,19 @@ def unfoldable():
     return found
 
 
-def unfolding(modules):
+def unfolding(modules, crates=[]):
     """The lines that bring the definitions in and unfold them; Machine, as x86, and Steps, as steps, only where asked for, by their names there.
     A name that another module before it has too is brought in with its module's."""
     named = {"x86": "Rattle.machine.specs.Machine", "steps": "Rattle.machine.specs.Steps"}
     uses, names = [], []
-    for module, found in unfoldable().items():
+    for module, found in unfoldable(crates).items():
         if module not in named.values():
             own = {n: f"{module.split('.')[-1]}-{n}" if n in names else n for n in found}
             uses.append(f"use {module}.{{{', '.join(n if n == o else f'{n} as {o}' for n, o in own.items())}}}")
             names += own.values()
     for name in modules:
         uses.append(f"use {named[name]} as {name}")
-        names += [f"{name}.{n}" for n in unfoldable()[named[name]]]
+        names += [f"{name}.{n}" for n in unfoldable(crates)[named[name]]]
     return "\n".join(uses), "unfolding " + " ".join(names)
 
 
@@ -43,13 +43,14 @@ def copy_crate(name, to):
     shutil.copytree(ROOT / "crates" / name, to / "crates" / name, ignore=shutil.ignore_patterns(*ignored))
 
 
-def check(modules, built=True):
-    """Proves the modules, each a crate of its own, over what target/ has proved if `built`; fails with the checker's first errors."""
+def check(modules, crates=[], built=True):
+    """Proves the modules, each a crate of its own over the definitions and `crates`, over what target/ has proved if `built`; fails with the checker's first errors."""
     with tempfile.TemporaryDirectory() as folder:
         repo = pathlib.Path(folder)
-        for crate in DEFINITIONS:
+        below = DEFINITIONS + crates
+        for crate in below:
             copy_crate(crate, repo)
-        lines = [l for l in (ROOT / "crates.txt").read_text().splitlines() if l.split(":")[0] in DEFINITIONS]
+        lines = [l for l in (ROOT / "crates.txt").read_text().splitlines() if l.split(":")[0] in below]
         if built and (ROOT / "target").is_dir():
             shutil.copytree(ROOT / "target", repo / "target", symlinks=True)
         for name, text in modules.items():
@@ -59,7 +60,7 @@ def check(modules, built=True):
             (crate / "src/lib.rt").write_text("// Equations over the definitions.\n")
             (crate / "proofs/Lib.antt").write_text("pub mod Equations\n")
             (crate / "proofs/Equations.antt").write_text(text, encoding="utf-8")
-            lines.append(f"{name}: {' '.join(DEFINITIONS)}")
+            lines.append(f"{name}: {' '.join(below)}")
         (repo / "crates.txt").write_text("\n".join(lines) + "\n")
         done = subprocess.run(["rt", "check", *modules], cwd=repo, stdout=subprocess.PIPE, stderr=subprocess.STDOUT, text=True)
         if done.returncode != 0:

@@ -1,7 +1,15 @@
 """Reads the fixed list of the oracle's answers (vectors/README.md has its form)."""
+import collections
 import pathlib
 
-MAGIC = b"KRCVEC01"
+MAGIC = b"KRCVEC02"
+
+# of each export, by its number: its name, and how many slices it reads, numbers it takes, slices it writes, numbers it leaves behind its answer
+Shape = collections.namedtuple("Shape", "name reads takes writes leaves")
+EXPORTS = [
+    Shape("pack_sheet", 1, 1, 0, 3),
+    Shape("pack_lower", 2, 1, 1, 1),
+]
 
 
 class Reader:
@@ -47,11 +55,35 @@ class Case:
         self.faults = [r.varint() for _ in range(r.varint())]
 
 
-def load(path):
+class Call:
+    """A call of another export. `writes` has the bytes lent, their first bytes before, and their first bytes afterwards."""
+
+    def __init__(self, r, index):
+        self.index = index
+        shape = EXPORTS[r.varint()]
+        self.name = shape.name
+        self.reads = [r.slice() for _ in range(shape.reads)]
+        self.takes = [r.varint() for _ in range(shape.takes)]
+        lent = [(r.varint(), r.slice()) for _ in range(shape.writes)]
+        self.answers = [r.varint() for _ in range(1 + shape.leaves)]
+        self.writes = [(length, before, r.slice()) for length, before in lent]
+
+
+def load_all(path):
+    """The cases and the calls of a file."""
     r = Reader(pathlib.Path(path).read_bytes())
     if r.take(8) != MAGIC:
         raise SystemExit(f"{path}: not a list of answers")
     cases = [Case(r, k) for k in range(r.varint())]
+    calls = [Call(r, k) for k in range(r.varint())]
     if r.at != len(r.data):
         raise SystemExit(f"{path}: bytes are left over")
-    return cases
+    return cases, calls
+
+
+def load(path):
+    return load_all(path)[0]
+
+
+def calls(path):
+    return load_all(path)[1]

@@ -4,7 +4,7 @@
 #include <inttypes.h>
 
 /* What a refusal's place counts. */
-enum place { PLACE_UNKNOWN, PLACE_TABLES, PLACE_SHEET, PLACE_INSTRUCTION, PLACE_RECORDS };
+enum place { PLACE_UNKNOWN, PLACE_TABLES, PLACE_SHEET, PLACE_INSTRUCTION, PLACE_RECORDS, PLACE_PACK };
 
 struct refusal {
     const char *word, *meaning;
@@ -21,6 +21,7 @@ static const struct refusal refusals[] = {
     [GILTHOREN_ODD_WIDTH] = {"odd width", "a size other than 1, 2, 4 or 8 is moved at once", PLACE_INSTRUCTION},
     [GILTHOREN_NO_LOWERING] = {"no lowering", "Krc has no lowering for it", PLACE_INSTRUCTION},
     [GILTHOREN_PAGE_FULL] = {"page full", "there is no room for all records", PLACE_RECORDS},
+    [GILTHOREN_BAD_PACK] = {"bad pack", "the pack is off the layout, too short, or has cells left over", PLACE_PACK},
 };
 
 static const struct refusal unknown = {"unknown refusal", "this program has no words for the number", PLACE_UNKNOWN};
@@ -74,6 +75,7 @@ void refusal_place(const struct sheet_text *sheet, uint64_t number, uint64_t pla
     case PLACE_SHEET: cell_place(sheet, row(number)->place, place, text); break;
     case PLACE_INSTRUCTION: instruction_place(sheet, place, text); break;
     case PLACE_RECORDS: bytes_print(text, "%" PRIu64 " records are needed", place); break;
+    case PLACE_PACK: bytes_print(text, "cell %" PRIu64 " of the pack", place); break;
     case PLACE_UNKNOWN: bytes_print(text, "number %" PRIu64 ", place %" PRIu64, number, place); break;
     }
 }

@@ -1,11 +1,12 @@
-//! Cases and their compact form; vectors/README.md describes it.
+//! Cases, calls and their compact form; vectors/README.md describes it.
 
+use crate::calls::{Call, Export, Written};
 use crate::cells::{to_bytes, torn_bytes, whole_cells};
 use crate::lower::answer;
 use crate::read::Refusal;
 use krc::record::Record;
 
-const MAGIC: &[u8; 8] = b"KRCVEC01";
+const MAGIC: &[u8; 8] = b"KRCVEC02";
 
 /// What is lent, and the answer.
 #[derive(Clone, PartialEq, Eq, Debug)]
@@ -31,10 +32,29 @@ pub fn head(count: usize) -> Vec<u8> {
     out
 }
 
-pub fn file(cases: &[Case]) -> Vec<u8> {
+pub fn file(cases: &[Case], calls: &[Call]) -> Vec<u8> {
     let mut out = head(cases.len());
     cases.iter().for_each(|case| put_case(&mut out, case));
+    put_number(&mut out, calls.len() as u64);
+    calls.iter().for_each(|call| put_call(&mut out, call));
     out
+}
+
+/// What stands behind the cases of a file that has no calls.
+pub fn put_no_calls(out: &mut Vec<u8>) {
+    put_number(out, 0);
+}
+
+fn put_call(out: &mut Vec<u8>, call: &Call) {
+    put_number(out, call.export as u64);
+    call.reads.iter().for_each(|slice| put_slice(out, slice));
+    call.takes.iter().for_each(|number| put_number(out, *number));
+    for written in &call.writes {
+        put_number(out, written.length as u64);
+        put_slice(out, &written.before);
+    }
+    call.answers.iter().for_each(|number| put_number(out, *number));
+    call.writes.iter().for_each(|written| put_slice(out, &written.after));
 }
 
 pub fn put_case(out: &mut Vec<u8>, case: &Case) {
@@ -80,12 +100,14 @@ fn put_cell(out: &mut Vec<u8>, cell: i64) {
     put_number(out, ((cell << 1) ^ (cell >> 63)) as u64);
 }
 
-/// The cases of a file, or nothing when it is not one.
-pub fn parse(bytes: &[u8]) -> Option<Vec<Case>> {
+/// The cases and calls of a file, or nothing when it is not one.
+pub fn parse(bytes: &[u8]) -> Option<(Vec<Case>, Vec<Call>)> {
     let mut reader = Reader { rest: bytes.strip_prefix(MAGIC)? };
     let count = reader.number()?;
     let cases: Vec<Case> = (0..count).map(|_| reader.case()).collect::<Option<_>>()?;
-    reader.rest.is_empty().then_some(cases)
+    let count = reader.number()?;
+    let calls: Vec<Call> = (0..count).map(|_| reader.call()).collect::<Option<_>>()?;
+    reader.rest.is_empty().then_some((cases, calls))
 }
 
 /// Counted inputs without answers: tables, sheet, and the number of record bytes.
@@ -159,5 +181,29 @@ impl Reader<'_> {
         let count = self.number()?;
         let faults = (0..count).map(|_| self.number()).collect::<Option<_>>()?;
         Some(Case { tables, sheet, out_len, result, faults })
+    }
+
+    fn numbers(&mut self, count: usize) -> Option<Vec<u64>> {
+        (0..count).map(|_| self.number()).collect()
+    }
+
+    fn slices(&mut self, count: usize) -> Option<Vec<Vec<u8>>> {
+        (0..count).map(|_| self.slice()).collect()
+    }
+
+    fn call(&mut self) -> Option<Call> {
+        let export = *Export::ALL.get(self.number()? as usize)?;
+        let shape = export.shape();
+        let (reads, takes) = (self.slices(shape.reads)?, self.numbers(shape.takes)?);
+        let mut writes = Vec::new();
+        for _ in 0..shape.writes {
+            let (length, before) = (self.number()? as usize, self.slice()?);
+            writes.push(Written { length, before, after: Vec::new() });
+        }
+        let answers = self.numbers(1 + shape.leaves)?;
+        for written in &mut writes {
+            written.after = self.slice()?;
+        }
+        Some(Call { export, reads, takes, writes, answers })
     }
 }

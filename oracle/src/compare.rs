@@ -3,10 +3,11 @@
 use std::collections::BTreeMap;
 use std::fmt::Write;
 
+use crate::calls::{Call, Family, Pool};
 use crate::cases;
 use crate::cells::to_bytes;
 use crate::compact::Case;
-use crate::engine::{Said, lower_into, plain};
+use crate::engine::{Said, call, lower_into, plain};
 use crate::list;
 use crate::rng::Rng;
 
@@ -33,6 +34,27 @@ pub fn test(seed: u64, count: usize) -> Result<String, String> {
         totals.add(&case);
     }
     Ok(totals.summary())
+}
+
+/// The listed calls of a family and `count` random ones; an error tells the first difference.
+pub fn test_calls(family: &Family, seed: u64, count: usize) -> Result<String, String> {
+    let mut rng = Rng::new(seed);
+    let mut old = OldBytes::new(&mut rng);
+    let (mut drawn, pool) = (Rng::new(seed), Pool::new());
+    let mut totals: BTreeMap<(String, u64), u64> = BTreeMap::new();
+    let draws = (0..count).map(|_| (family.draw)(&mut drawn, &pool));
+    for call in (family.listed)().into_iter().chain(draws) {
+        compare_call(&call, &mut rng, &mut old)
+            .map_err(|difference| format!("{difference}\n{call:?}"))?;
+        *totals.entry((format!("{:?}", call.export), call.answers[0])).or_insert(0) += 1;
+    }
+    let mut text =
+        format!("{}: {} calls, no difference:", family.name, totals.values().sum::<u64>());
+    for ((export, answer), count) in totals {
+        write!(text, " {export} {answer} {count},").expect("text grows");
+    }
+    text.pop();
+    Ok(text + "\n")
 }
 
 impl Totals {
@@ -110,6 +132,37 @@ impl Lent {
     fn slice_mut(&mut self) -> &mut [u8] {
         &mut self.bytes[self.start..self.end]
     }
+}
+
+/// Slices of any alignment between guards: the answers, every byte that is lent and those around it.
+fn compare_call(wanted: &Call, rng: &mut Rng, old: &mut OldBytes) -> Result<(), String> {
+    let reads: Vec<Lent> = wanted.reads.iter().map(|content| Lent::of(rng, old, content)).collect();
+    let before: Vec<Vec<u8>> = reads.iter().map(|lent| lent.bytes.clone()).collect();
+    let mut writes: Vec<Lent> =
+        wanted.writes.iter().map(|to| Lent::new(rng, old, to.length)).collect();
+    let mut after = Vec::new();
+    for (lent, to) in writes.iter_mut().zip(&wanted.writes) {
+        lent.slice_mut()[..to.before.len()].copy_from_slice(&to.before);
+        let mut bytes = lent.bytes.clone();
+        bytes[lent.start..lent.start + to.after.len()].copy_from_slice(&to.after);
+        after.push(bytes);
+    }
+    let lent: Vec<&[u8]> = reads.iter().map(Lent::slice).collect();
+    let mut slices: Vec<&mut [u8]> = writes.iter_mut().map(Lent::slice_mut).collect();
+    let found = call(wanted.export, &lent, &wanted.takes, &mut slices);
+    if found != wanted.answers {
+        return Err(format!("answer: wanted {:?}, found {found:?}", wanted.answers));
+    }
+    if writes.iter().map(|lent| &lent.bytes).ne(&after) {
+        return Err("bytes that were lent to be written, or bytes around them, are not as wanted"
+            .to_string());
+    }
+    if reads.iter().map(|lent| &lent.bytes).ne(&before) {
+        return Err(
+            "bytes that were lent to be read, or bytes around them, were written".to_string()
+        );
+    }
+    Ok(())
 }
 
 fn compare(case: &Case, rng: &mut Rng, old: &mut OldBytes) -> Result<(), String> {

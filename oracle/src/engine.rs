@@ -1,5 +1,6 @@
-//! The exported lowering and plain test, as include/gilthoren.h declares them.
+//! The exported functions, as include/gilthoren.h declares them.
 
+use crate::calls::Export;
 use crate::lower::RECORD;
 use crate::sheet::{Sheet, Tables};
 use krc::record::Record;
@@ -21,6 +22,50 @@ unsafe extern "C" {
         sheet_bytes: usize,
         place: *mut u64,
     ) -> u64;
+    fn gilthoren_pack_sheet(
+        pack: *const u8,
+        pack_bytes: usize,
+        number: u64,
+        place: *mut u64,
+        from: *mut u64,
+        length: *mut u64,
+    ) -> u64;
+    fn gilthoren_pack_lower(
+        tables: *const u8,
+        tables_bytes: usize,
+        pack: *const u8,
+        pack_bytes: usize,
+        number: u64,
+        records: *mut u8,
+        records_bytes: usize,
+        place: *mut u64,
+    ) -> u64;
+}
+
+/// Calls an export: the slices it reads, the numbers it takes, the slices it writes. The answer comes back, then what is left at its pointers.
+pub fn call(export: Export, reads: &[&[u8]], takes: &[u64], writes: &mut [&mut [u8]]) -> Vec<u64> {
+    let shape = export.shape();
+    let given = (reads.len(), takes.len(), writes.len());
+    assert_eq!(given, (shape.reads, shape.takes, shape.writes), "what {export:?} is lent");
+    let read = |k: usize| (reads[k].as_ptr(), reads[k].len());
+    let written: Vec<_> = writes.iter_mut().map(|to| (to.as_mut_ptr(), to.len())).collect();
+    let mut left = vec![u64::MAX; shape.leaves];
+    let at = left.as_mut_ptr();
+    // SAFETY: each pointer is lent with its slice's length, as many numbers are left as `left` has, and nothing overlaps.
+    let answer = unsafe {
+        match export {
+            Export::PackSheet => {
+                let (pack, bytes) = read(0);
+                gilthoren_pack_sheet(pack, bytes, takes[0], at, at.add(1), at.add(2))
+            }
+            Export::PackLower => {
+                let ((tables, tables_bytes), (pack, bytes)) = (read(0), read(1));
+                let (out, room) = written[0];
+                gilthoren_pack_lower(tables, tables_bytes, pack, bytes, takes[0], out, room, at)
+            }
+        }
+    };
+    [&[answer], left.as_slice()].concat()
 }
 
 /// What a call answers.

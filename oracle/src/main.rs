@@ -2,6 +2,7 @@
 
 #[cfg(feature = "engine")]
 mod bench;
+mod calls;
 mod cases;
 mod cells;
 mod compact;
@@ -40,6 +41,7 @@ const USAGE: &str = "usage: oracle answer < CELLS
        oracle runs SEED COUNT
 with the engine linked in:
        oracle compare SEED COUNT
+       oracle compare FAMILY SEED COUNT
        oracle engine-processor SEED COUNT
        oracle engine-calls SEED COUNT
        oracle bench";
@@ -60,16 +62,17 @@ fn command(words: &[&str]) -> Result<(), String> {
     match words {
         ["answer"] => answer(),
         ["cases", seed, count] => random(number(seed)?, number(count)? as usize),
-        ["list", out] => {
-            fs::write(out, compact::file(&list::cases())).map_err(|error| format!("{out}: {error}"))
+        ["list", out] => fs::write(out, compact::file(&list::cases(), &calls::fixed()))
+            .map_err(|error| format!("{out}: {error}")),
+        ["show", file] => {
+            let (cases, calls) = parts_of(file)?;
+            print((show::summary(&cases) + &show::calls_summary(&calls)).as_bytes())
         }
-        ["show", file] => print(show::summary(&cases_of(file)?).as_bytes()),
         ["show", file, n] => {
-            let cases = cases_of(file)?;
-            let case = cases.get(number(n)? as usize).ok_or("no such case")?;
-            print(case.to_string().as_bytes())
+            let (cases, calls) = parts_of(file)?;
+            print(show::one(&cases, &calls, number(n)? as usize).ok_or("no such case")?.as_bytes())
         }
-        ["held", file] => print(show::held_cases(&cases_of(file)?).as_bytes()),
+        ["held", file] => print(show::held_cases(&parts_of(file)?.0).as_bytes()),
         ["processor", seed, count] => {
             let summary = processor::test(number(seed)?, number(count)? as usize, lower::list)?;
             print(summary.as_bytes())
@@ -89,6 +92,10 @@ fn command(words: &[&str]) -> Result<(), String> {
 fn engine_command(words: &[&str]) -> Result<(), String> {
     let summary = match words {
         ["compare", seed, count] => compare::test(number(seed)?, number(count)? as usize)?,
+        ["compare", name, seed, count] => {
+            let family = calls::family(name).ok_or(format!("{name} is no family of calls"))?;
+            compare::test_calls(family, number(seed)?, number(count)? as usize)?
+        }
         ["engine-processor", seed, count] => {
             processor::test(number(seed)?, number(count)? as usize, engine::list)?
         }
@@ -124,10 +131,11 @@ fn random(seed: u64, count: usize) -> Result<(), String> {
         out.write_all(&bytes).map_err(|error| error.to_string())?;
         bytes.clear();
     }
+    compact::put_no_calls(&mut bytes);
     out.write_all(&bytes).and_then(|()| out.flush()).map_err(|error| error.to_string())
 }
 
-fn cases_of(file: &str) -> Result<Vec<compact::Case>, String> {
+fn parts_of(file: &str) -> Result<(Vec<compact::Case>, Vec<calls::Call>), String> {
     let bytes = fs::read(file).map_err(|error| format!("{file}: {error}"))?;
     compact::parse(&bytes).ok_or(format!("{file} is no file of cases"))
 }

@@ -3,6 +3,7 @@
 use std::collections::BTreeMap;
 use std::fmt::{self, Display, Formatter, Write};
 
+use crate::calls::{Call, Export};
 use crate::compact::Case;
 use crate::lower::held;
 use crate::read::{read_sheet, read_tables};
@@ -27,6 +28,25 @@ pub fn summary(cases: &[Case]) -> String {
     writeln!(text, "torn: {}", count(|case| case.sheet.len() % 8 + case.tables.len() % 8 > 0))
         .expect("text grows");
     text
+}
+
+/// How many calls of each export have each answer.
+pub fn calls_summary(calls: &[Call]) -> String {
+    let mut answers = BTreeMap::new();
+    for call in calls {
+        *answers.entry((call.export as usize, call.answers[0])).or_insert(0) += 1;
+    }
+    let mut text = format!("{} calls\n", calls.len());
+    for ((export, answer), count) in answers {
+        writeln!(text, "{:?}, answer {answer}: {count}", Export::ALL[export]).expect("text grows");
+    }
+    text
+}
+
+/// One case, or, behind the cases, one call.
+pub fn one(cases: &[Case], calls: &[Call], number: usize) -> Option<String> {
+    let case = cases.get(number).map(Case::to_string);
+    case.or_else(|| calls.get(number.checked_sub(cases.len())?).map(|call| format!("{call:#?}\n")))
 }
 
 /// The cases whose answer each rule alters, by their numbers from 0.

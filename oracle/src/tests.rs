@@ -1,5 +1,6 @@
 //! The twelve cases, and the answers where Krc's order of evaluation decides.
 
+use crate::calls;
 use crate::cases::{Draft, any, limits, plain};
 use crate::cells::to_bytes;
 use crate::compact::{file, parse};
@@ -761,8 +762,8 @@ fn plain_drafts_are_plain() {
 
 #[test]
 fn the_compact_form_is_read_back() {
-    let cases = limits::cases();
-    assert_eq!(parse(&file(&cases)).as_ref(), Some(&cases));
+    let (cases, calls) = (limits::cases(), calls::fixed());
+    assert_eq!(parse(&file(&cases, &calls)), Some((cases, calls)));
 }
 
 #[test]
@@ -780,4 +781,23 @@ fn the_list_has_every_refusal_and_no_repeats() {
     inputs.sort();
     inputs.dedup();
     assert_eq!(inputs.len(), cases.len());
+}
+
+#[test]
+fn packs_by_the_request() {
+    let read = |cells: &[i64]| {
+        calls::pack::read(&to_bytes(cells)).map_err(|refusal| (refusal.number, refusal.place))
+    };
+    assert_eq!(read(&[1, 3, 1, 7]), Ok(vec![(24, 8)]));
+    assert_eq!(read(&[2, 5, 0, 5, 0]), Ok(vec![(40, 0), (40, 0)]));
+    assert_eq!(read(&[1, 4, 1, 7, 8]), Err((13, 1)));
+    assert_eq!(read(&[2, 5, 1, 7, 1, 7, 8]), Err((13, 3)));
+    assert_eq!(read(&[1, 3, 2, 7]), Err((13, 2)));
+    assert_eq!(read(&[1, 3, -1, 7]), Err((13, 2)));
+    assert_eq!(read(&[1, 3, i64::MAX, 7]), Err((13, 2)));
+    assert_eq!(read(&[1, 3, 0, 7]), Err((13, 3)));
+    assert_eq!(read(&[2, 5, 1, 6]), Err((13, 2)));
+    assert_eq!(read(&[257]), Err((13, 0)));
+    assert_eq!(read(&[0]), Err((13, 0)));
+    assert_eq!(read(&[]), Err((13, 0)));
 }

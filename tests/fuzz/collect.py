@@ -1,6 +1,6 @@
 """Writes the fuzzer's finds as cases without answers, for the oracle's fixed list: collect.py FOLDER OUT.
 
-FOLDER has what `target/fuzz/fuzzer -merge=1 -use_counters=0 COPY target/fuzz/corpus` adds to a copy of target/fuzz/seeds. OUT is oracle/src/cases/fuzzed.bin:
+FOLDER has what `target/fuzz/lower -merge=1 -use_counters=0 COPY target/fuzz/corpus/lower` adds to a copy of target/fuzz/seeds/lower. OUT is oracle/src/cases/fuzzed.bin:
 a count, then tables, sheet and the number of record bytes of each, in the compact form of vectors/README.md; the cases that it has are kept. Cut-off inputs are
 read as the driver reads them.
 """

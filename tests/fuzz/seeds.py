@@ -1,4 +1,5 @@
-"""Writes the fixed list's inputs as the fuzzer's seeds, a file each: seeds.py FOLDER [MOST_BYTES]."""
+"""Writes the fixed list's inputs as the fuzzers' seeds, a folder for each driver and a file for each input: seeds.py FOLDER [MOST_BYTES]."""
+import collections
 import hashlib
 import pathlib
 import sys
@@ -28,16 +29,29 @@ def slice_of(data):
     return varint(count) + b"".join(cell(value) for value in cells) + bytes([len(torn)]) + torn
 
 
+def of_case(case):
+    return "lower", slice_of(case.tables) + slice_of(case.sheet) + varint(case.out_len)
+
+
+def of_call(call):
+    """A driver's name, and what it reads."""
+    if call.name == "pack_sheet":
+        return "pack", slice_of(call.reads[0]) + varint(call.takes[0])
+    if call.name == "pack_lower":
+        return "pack", slice_of(call.reads[1]) + varint(call.takes[0]) + slice_of(call.reads[0]) + varint(call.writes[0][0])
+    raise SystemExit(f"seeds: {call.name} has no driver")
+
+
 def main(folder, most=4096):
-    folder = pathlib.Path(folder)
-    folder.mkdir(parents=True, exist_ok=True)
-    count = 0
-    for case in vectors.load(ROOT / "vectors" / "answers.bin"):
-        data = slice_of(case.tables) + slice_of(case.sheet) + varint(case.out_len)
+    count = collections.Counter()
+    cases, calls = vectors.load_all(ROOT / "vectors" / "answers.bin")
+    for driver, data in [of_case(case) for case in cases] + [of_call(call) for call in calls]:
         if len(data) <= int(most):
-            (folder / hashlib.sha256(data).hexdigest()[:16]).write_bytes(data)
-            count += 1
-    print(f"seeds: {count} written")
+            to = pathlib.Path(folder) / driver
+            to.mkdir(parents=True, exist_ok=True)
+            (to / hashlib.sha256(data).hexdigest()[:16]).write_bytes(data)
+            count[driver] += 1
+    print("seeds: " + ", ".join(f"{n} for {driver}" for driver, n in count.items()))
 
 
 if __name__ == "__main__":

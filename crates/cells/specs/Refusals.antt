@@ -27,3 +27,6 @@ registersSpent = 8
 
 abbrev pub pageFull : ℕ
 pageFull = 9
+
+abbrev pub badPack : ℕ
+badPack = 13

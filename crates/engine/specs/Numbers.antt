@@ -3,11 +3,20 @@
 use Prim.Native.Nat.{ℕ, _≤_}
 use mathlib.Core.Path.{_≡_}
 use mathlib.Core.Option.{Option, none, some}
-use Rattle.cells.specs.Refusals.{registersSpent, pageFull}
+use mathlib.Core.Logic.{_⊎_}
+use Rattle.cells.specs.Refusals.{noEntry, registersSpent, pageFull, badPack}
 
 -- what it can be: 0 to page full, but for registers spent, which is never answered (docs/FORMAT.md, "Refusals")
 abbrev pub IsNumber : ℕ → Type 0
 IsNumber n = (n ≤ pageFull) × (n ≡ registersSpent → ⊥)
+
+-- what the number of a look-up in a pack can be (docs/FORMAT.md, "Packs")
+abbrev pub IsLookUpNumber : ℕ → Type 0
+IsLookUpNumber n = (n ≡ 0) ⊎ ((n ≡ noEntry) ⊎ (n ≡ badPack))
+
+-- and that of a lowering in a pack: one of the lowering's, or bad pack
+abbrev pub IsPackNumber : ℕ → Type 0
+IsPackNumber n = IsNumber n ⊎ (n ≡ badPack)
 
 -- of the plain test: 1 for yes, 0 for no
 abbrev pub yesOf : Option ℕ → ℕ

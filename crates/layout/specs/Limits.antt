@@ -1,4 +1,4 @@
--- Believed: refusals 1 and 3 rest on it. The limits of tables and sheet (docs/FORMAT.md, "Limits").
+-- Believed: refusals 1, 3 and 13 rest on it. The limits of tables, sheet and pack (docs/FORMAT.md, "Limits").
 use Prim.Native.Nat.{ℕ}
 
 abbrev pub mostStrings : ℕ
@@ -26,3 +26,7 @@ mostArguments = 64
 -- the count of an array, and the offset of a variable
 abbrev pub mostCount : ℕ
 mostCount = 1048576
+
+-- the sheets of a pack
+abbrev pub mostSheets : ℕ
+mostSheets = 256

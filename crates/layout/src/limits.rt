@@ -1,4 +1,4 @@
-// The limits of tables and sheet. specs/Limits.antt names the same numbers for the definitions.
+// The limits of tables, sheet and pack. specs/Limits.antt names the same numbers for the definitions.
 pub const MOST_STRINGS: u64 = 256;
 
 pub const MOST_FLOATS: u64 = 256;
@@ -16,3 +16,6 @@ pub const MOST_ARGUMENTS: u64 = 64;
 
 // This is the largest count of an array, and the largest offset of a variable.
 pub const MOST_COUNT: u64 = 1048576;
+
+// These are the sheets of a pack.
+pub const MOST_SHEETS: u64 = 256;

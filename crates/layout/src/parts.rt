@@ -11,7 +11,7 @@ ghost use mathlib.Core.Path.{_≡_};
 ghost use Rattle.layout.specs.Layout.{endCheck, limited, countCheck, zerosCheck, fieldsCheck, typeCheck, returnCheck, varCheck, firstField, operandCheck, operandsCheck};
 
 // This is the largest number that is not negative.
-pub(crate) const LARGEST: u64 = 0x7fff_ffff_ffff_ffff;
+pub const LARGEST: u64 = 0x7fff_ffff_ffff_ffff;
 
 // Nothing is left behind the cursor, not even a torn cell.
 pub fn end_check(number: u8, s: &[u8], c: Cursor) -> Checked

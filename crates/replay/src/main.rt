@@ -1,204 +1,36 @@
 // The fixed list of the oracle's answers (vectors/README.md has its form) is standard input. Each of its cases goes through the lowering and the plain
-// test as C calls them. A case whose answer, records, lent bytes or plain test are not as the list has them gives a line `difference`. The last lines
-// have the counts.
+// test as C calls them, and each of its calls through its export. A case whose answer, records, lent bytes or plain test are not as the list has them gives a
+// line `difference`, and so does a call whose answer or lent bytes are not. The last lines have the counts.
+mod exports;
+mod list;
+mod report;
+
+use crate::exports::call_all;
+use crate::list::Compared;
+use crate::list::EDGE;
+use crate::list::Place;
+use crate::list::Read;
+use crate::list::cell;
+use crate::list::fill;
+use crate::list::is_filled;
+use crate::list::number;
+use crate::list::slice_in;
+use crate::report::DIFFERENCES;
+use crate::report::PLAIN;
+use crate::report::RECORDS;
+use crate::report::count;
+use crate::report::difference;
+use crate::report::print_pair;
 use cells::Cell;
 use cells::Cursor;
 use cells::cell_at;
-use cells::put_word;
 use engine::lower::gilthoren_lower;
 use engine::plain_test::gilthoren_plain;
 ghost use mathlib.Core.Path.{_≡_};
 ghost use lib.ListN.{length};
 
-// This is `KRCVEC01` as a cell.
-const MAGIC: u64 = 3544406871819637323;
-
-// So many bytes stand in front of the record bytes that are lent, and behind them.
-const EDGE: usize = 64;
-
-// It has a number of the list, or of bytes that were read into a slice, and the place behind it in the list; or the list is malformed.
-enum Read {
-    Number(u64, usize),
-    Bad,
-}
-
-// It has the place behind what was read; or the list is malformed.
-enum Place {
-    At(usize),
-    Bad,
-}
-
-// It has the place behind records or faults, and whether they are as they should be; or the list is malformed.
-enum Compared {
-    At(usize, bool),
-    Bad,
-}
-
-fn wide(x: u8) -> u64 {
-    x as u64
-}
-
-// A number is seven bits a byte, lowest first, with the high bit set on all bytes but the last.
-fn number(list: &[u8], at: usize) -> Read {
-    let mut value: u64 = 0;
-    let mut shift: u32 = 0;
-    let mut k = at;
-    while shift < 64 {
-        if list.len() <= k {
-            return Read::Bad;
-        }
-        let b = wide(list[k]);
-        k += 1;
-        value |= (b % 128) << shift;
-        if b < 128 {
-            return Read::Number(value, k);
-        }
-        shift += 7;
-    }
-    Read::Bad
-}
-
-// It gives a cell from its zigzag code.
-fn cell(z: u64) -> u64 {
-    if z % 2 == 0 {
-        z / 2
-    } else {
-        18446744073709551615 - z / 2
-    }
-}
-
-// It puts n cells at the start of `out`.
-fn cells_in(list: &[u8], at: usize, n: u64, out: &mut [u8]) -> Place {
-    let mut k = at;
-    let mut to = 0;
-    let mut left = n;
-    while 0 < left {
-        if out.len() - to < 8 {
-            return Place::Bad;
-        }
-        match number(list, k) {
-            Read::Number(z, next) => {
-                put_word(out, to, cell(z));
-                k = next;
-            }
-            Read::Bad => {
-                return Place::Bad;
-            }
-        }
-        to += 8;
-        left -= 1;
-    }
-    Place::At(k)
-}
-
-// It puts n bytes of the list into `out`, from `from` on.
-fn bytes_in(list: &[u8], at: usize, n: usize, out: &mut [u8], from: usize) -> Place {
-    let mut k = at;
-    let mut to = from;
-    let mut left = n;
-    while 0 < left {
-        if list.len() <= k {
-            return Place::Bad;
-        }
-        if out.len() <= to {
-            return Place::Bad;
-        }
-        out[to] = list[k];
-        k += 1;
-        to += 1;
-        left -= 1;
-    }
-    Place::At(k)
-}
-
-// It reads the bytes of a torn last cell, which stand behind `whole` bytes of cells.
-fn tail_in(list: &[u8], at: usize, whole: usize, out: &mut [u8]) -> Read {
-    if list.len() <= at {
-        return Read::Bad;
-    }
-    let n = wide(list[at]);
-    if 7 < n {
-        return Read::Bad;
-    }
-    if 1048576 < whole {
-        return Read::Bad;
-    }
-    match bytes_in(list, at + 1, n as usize, out, whole) {
-        Place::At(next) => Read::Number(whole as u64 + n, next),
-        Place::Bad => Read::Bad,
-    }
-}
-
-// It reads a slice to the start of `out`.
-fn slice_in(list: &[u8], at: usize, out: &mut [u8]) -> Read {
-    match number(list, at) {
-        Read::Number(n, first) => {
-            if 131072 < n {
-                return Read::Bad;
-            }
-            match cells_in(list, first, n, out) {
-                Place::At(tail) => tail_in(list, tail, 8 * n as usize, out),
-                Place::Bad => Read::Bad,
-            }
-        }
-        Read::Bad => Read::Bad,
-    }
-}
-
-fn print_pair(a: u64, b: u64) {
-    io::print_decimal(1, a);
-    io::write_all(1, b" ");
-    io::print_decimal(1, b);
-    io::write_all(1, b"\n");
-}
-
-// The answers are counted by their numbers, as far as these are below RECORDS; then come the counts of records, of plain functions and of differences.
-const RECORDS: usize = 29;
-
-const PLAIN: usize = 30;
-
-const DIFFERENCES: usize = 31;
-
-fn count(counts: &mut [u64; 32], k: usize, by: u64) {
-    if k < 32 {
-        counts[k] = std::num::wrapping_add_u64(counts[k], by);
-    }
-}
-
-// It writes and counts a difference: 1 is the answer, 2 the records, 3 another lent byte, 4 the plain test.
-fn difference(index: u64, what: u64, counts: &mut [u64; 32]) {
-    io::write_all(1, b"difference ");
-    print_pair(index, what);
-    count(counts, DIFFERENCES, 1);
-}
-
-// This byte stands at a place of the record bytes before a call.
-fn filler(k: usize) -> u8 {
-    (k % 251) as u8
-}
-
-fn fill(records: &mut [u8]) {
-    let mut k = 0;
-    while k < records.len() {
-        records[k] = filler(k);
-        k += 1;
-    }
-}
-
-// It says whether the bytes from `from` to before `to` stand as they were filled in.
-fn is_filled(records: &[u8], from: usize, to: usize) -> bool {
-    let mut k = from;
-    while k < to {
-        if records.len() <= k {
-            return false;
-        }
-        if records[k] != filler(k) {
-            return false;
-        }
-        k += 1;
-    }
-    true
-}
+// This is `KRCVEC02` as a cell.
+const MAGIC: u64 = 3616464465857565259;
 
 // It says whether the next n cells of the list are those at the start of `out`.
 fn same_cells(list: &[u8], at: usize, n: usize, out: &[u8]) -> Compared {
@@ -422,7 +254,7 @@ fn case(
     )
 }
 
-// It runs the cases from `at` on, of which there are n, with nothing behind them.
+// It runs the cases from `at` on, of which there are n.
 fn cases(
     list: &[u8],
     at: usize,
@@ -431,7 +263,7 @@ fn cases(
     sheet: &mut [u8],
     records: &mut [u8],
     counts: &mut [u64; 32],
-) -> bool {
+) -> Place {
     let mut k = at;
     let mut index = 0;
     while index < n {
@@ -440,12 +272,12 @@ fn cases(
                 k = next;
             }
             Place::Bad => {
-                return false;
+                return Place::Bad;
             }
         }
         index += 1;
     }
-    k == list.len()
+    Place::At(k)
 }
 
 // It gives the count of the list's cases, behind its first eight bytes, and the place behind it.
@@ -461,10 +293,10 @@ fn header(list: &[u8]) -> Read {
 }
 
 // There is room for the list, for a sheet and for records. The `ensures` gives the length, which lending an array as a slice needs.
-fn list_room() -> [u8; 1572864]
-    ensures { λ r. ⌜ 1572864 ≡ length r ⌝ }
+fn list_room() -> [u8; 2097152]
+    ensures { λ r. ⌜ 2097152 ≡ length r ⌝ }
 {
-    [0; 1572864]
+    [0; 2097152]
 }
 
 fn sheet_room() -> [u8; 458752]
@@ -479,28 +311,57 @@ fn records_room() -> [u8; 66240]
     [0; 66240]
 }
 
-fn replay(list: &[u8]) {
+// It runs all the cases, and gives the place behind them.
+fn replay_cases(list: &[u8], at: usize, n: u64, counts: &mut [u64; 32]) -> Place {
     let mut tables = [0u8; 4096];
     let mut sheet = sheet_room();
     let mut records = records_room();
+    cases(list, at, n, &mut tables, &mut sheet, &mut records, counts)
+}
+
+// It runs all the calls, with nothing behind them, and gives their number.
+fn replay_calls(list: &[u8], at: usize, counts: &mut [u64; 32]) -> Read {
+    let mut first = [0u8; 4096];
+    let mut second = sheet_room();
+    let mut out = records_room();
+    let mut wanted = records_room();
+    let Read::Number(n, from) = number(list, at) else {
+        return Read::Bad;
+    };
+    let Place::At(end) = call_all(
+        list,
+        from,
+        n,
+        &mut first,
+        &mut second,
+        &mut out,
+        &mut wanted,
+        counts,
+    ) else {
+        return Read::Bad;
+    };
+    if end == list.len() {
+        Read::Number(n, end)
+    } else {
+        Read::Bad
+    }
+}
+
+fn replay(list: &[u8]) {
     let mut counts = [0u64; 32];
     let Read::Number(n, at) = header(list) else {
         malformed();
         return;
     };
-    if cases(
-        list,
-        at,
-        n,
-        &mut tables,
-        &mut sheet,
-        &mut records,
-        &mut counts,
-    ) {
-        print_counts(n, &counts);
-    } else {
+    let Place::At(behind) = replay_cases(list, at, n, &mut counts) else {
         malformed();
-    }
+        return;
+    };
+    let Read::Number(m, _) = replay_calls(list, behind, &mut counts) else {
+        malformed();
+        return;
+    };
+    print_counts(n, m, &counts);
 }
 
 // It writes each refusal that has come, and how often.
@@ -516,7 +377,7 @@ fn print_refusals(counts: &[u64; 32]) {
     }
 }
 
-fn print_counts(n: u64, counts: &[u64; 32]) {
+fn print_counts(n: u64, calls: u64, counts: &[u64; 32]) {
     io::print_decimal(1, n);
     io::write_all(1, b" cases, accepted ");
     io::print_decimal(1, counts[0]);
@@ -526,7 +387,9 @@ fn print_counts(n: u64, counts: &[u64; 32]) {
     print_refusals(counts);
     io::write_all(1, b"plain ");
     io::print_decimal(1, counts[PLAIN]);
-    io::write_all(1, b", differences ");
+    io::write_all(1, b"\n");
+    io::print_decimal(1, calls);
+    io::write_all(1, b" calls, differences ");
     io::print_decimal(1, counts[DIFFERENCES]);
     io::write_all(1, b"\n");
 }

@@ -13,7 +13,7 @@ pub fn damage(rng: &mut Rng, mut input: Input) -> Input {
     input
 }
 
-fn damage_slice(rng: &mut Rng, bytes: &mut Vec<u8>) {
+pub fn damage_slice(rng: &mut Rng, bytes: &mut Vec<u8>) {
     let cells = bytes.len() / CELL;
     match rng.below(12) {
         0 => bytes.truncate(rng.below(bytes.len() + 1)),

@@ -1,0 +1,3 @@
+pub mod Pack
+pub mod Names
+pub mod Changes
