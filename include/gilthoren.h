@@ -278,6 +278,12 @@ uint64_t gilthoren_pack_sheet(const uint8_t *pack, size_t pack_bytes, uint64_t n
 uint64_t gilthoren_pack_lower(const uint8_t *tables, size_t tables_bytes, const uint8_t *pack, size_t pack_bytes, uint64_t number,
                               uint8_t *records, size_t records_bytes, uint64_t *place);
 
+/* The totals of a pack: after 0 `records` holds the number of records of all its sheets that lower, `refused` the number of those that do not, and
+ * `place` 0; room for records plays no part, and bad tables refuse every sheet. Or GILTHOREN_BAD_PACK, with 0 in both. The three pointers are to
+ * different memory. */
+uint64_t gilthoren_pack_totals(const uint8_t *tables, size_t tables_bytes, const uint8_t *pack, size_t pack_bytes, uint64_t *place,
+                               uint64_t *records, uint64_t *refused);
+
 #ifdef __cplusplus
 }
 #endif

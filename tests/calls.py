@@ -6,15 +6,21 @@ from answers import HEADER
 from scratch import ROOT, numbers, unfolding
 
 # the crates whose definitions an export is by, beside those that all equations have; what they bring in; and what is shown of an answer
-CRATES = ["pack"]
+CRATES = ["pack", "totals"]
 USES = """use Rattle.cells.specs.Outcomes.{numberOf, placeOf}
 use Rattle.pack.specs.declared.Pair.{Pair}
 use Rattle.pack.specs.Pack.{startOf, sizeOf}
+use Rattle.totals.specs.declared.Totals.{Totals}
+use Rattle.totals.specs.Totals.{recordsOf, refusedOf}
 """
 SHOWN = """
 -- number, place, first byte and bytes
 abbrev shownPair : Outcome Pair → List ℕ
 shownPair o = numberOf o ∷ placeOf (λ p. 0) o ∷ startOf o ∷ sizeOf o ∷ []
+
+-- number, place, records and refused sheets
+abbrev shownTotals : Outcome Totals → List ℕ
+shownTotals o = numberOf o ∷ placeOf (λ t. 0) o ∷ recordsOf o ∷ refusedOf o ∷ []
 
 """
 
@@ -31,6 +37,8 @@ def sides(call):
         return f"shownPair (findPair {reads[0]} {call.takes[0]})", call.answers
     if call.name == "pack_lower":
         return f"shown (loweredIn {reads[0]} {reads[1]} {call.takes[0]} {call.writes[0][0]})", call.answers + cells(call.writes[0][2])
+    if call.name == "pack_totals":
+        return f"shownTotals (packTotals {reads[0]} {reads[1]})", call.answers
     raise SystemExit(f"evaluate: {call.name} has no definition here")
 
 

@@ -64,6 +64,7 @@ struct cases cases_open(const char *path) {
 const struct shape shapes[EXPORTS] = {
     [PACK_SHEET] = {.reads = 1, .takes = 1, .writes = 0, .leaves = 3},
     [PACK_LOWER] = {.reads = 2, .takes = 1, .writes = 1, .leaves = 1},
+    [PACK_TOTALS] = {.reads = 2, .takes = 0, .writes = 0, .leaves = 3},
 };
 
 void cases_calls(struct cases *c) {

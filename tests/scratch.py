@@ -36,21 +36,24 @@ def numbers(values):
     return " ∷ ".join(str(v % (1 << 64)) for v in values) + " ∷ []" if values else "[]"
 
 
-def copy_crate(name, to):
-    """A crate with its proofs, or, where it has no functions, without them: the definitions are enough."""
+def copy_crate(name, to, whole):
+    """A crate with its proofs, or, where it has no functions and not all is asked for, without them: the definitions are enough."""
     has_functions = any(re.search(r"^\s*(pub )?fn ", f.read_text(encoding="utf-8"), re.M) for f in (ROOT / "crates" / name / "src").rglob("*.rt"))
-    ignored = ["must-fail"] if has_functions else ["must-fail", "proofs"]
+    ignored = ["must-fail"] if has_functions or whole else ["must-fail", "proofs"]
     shutil.copytree(ROOT / "crates" / name, to / "crates" / name, ignore=shutil.ignore_patterns(*ignored))
 
 
 def check(modules, crates=[], built=True):
-    """Proves the modules, each a crate of its own over the definitions and `crates`, over what target/ has proved if `built`; fails with the checker's first errors."""
+    """Proves the modules, each a crate of its own over the definitions and `crates`, over what target/ has proved if `built`; fails with the checker's first
+    errors. What `crates` need is copied whole, so that it is not proved anew where target/ has it."""
     with tempfile.TemporaryDirectory() as folder:
         repo = pathlib.Path(folder)
+        needs = dict(l.split(":") for l in (ROOT / "crates.txt").read_text().splitlines() if ":" in l)
         below = DEFINITIONS + crates
+        below += sorted({need for crate in crates for need in needs[crate].split()} - set(below))
         for crate in below:
-            copy_crate(crate, repo)
-        lines = [l for l in (ROOT / "crates.txt").read_text().splitlines() if l.split(":")[0] in below]
+            copy_crate(crate, repo, crates != [])
+        lines = [f"{crate}:{needs[crate]}" for crate in below]
         if built and (ROOT / "target").is_dir():
             shutil.copytree(ROOT / "target", repo / "target", symlinks=True)
         for name, text in modules.items():

@@ -9,6 +9,7 @@ Shape = collections.namedtuple("Shape", "name reads takes writes leaves")
 EXPORTS = [
     Shape("pack_sheet", 1, 1, 0, 3),
     Shape("pack_lower", 2, 1, 1, 1),
+    Shape("pack_totals", 2, 0, 0, 3),
 ]
 
 

@@ -40,6 +40,15 @@ unsafe extern "C" {
         records_bytes: usize,
         place: *mut u64,
     ) -> u64;
+    fn gilthoren_pack_totals(
+        tables: *const u8,
+        tables_bytes: usize,
+        pack: *const u8,
+        pack_bytes: usize,
+        place: *mut u64,
+        records: *mut u64,
+        refused: *mut u64,
+    ) -> u64;
 }
 
 /// Calls an export: the slices it reads, the numbers it takes, the slices it writes. The answer comes back, then what is left at its pointers.
@@ -62,6 +71,10 @@ pub fn call(export: Export, reads: &[&[u8]], takes: &[u64], writes: &mut [&mut [
                 let ((tables, tables_bytes), (pack, bytes)) = (read(0), read(1));
                 let (out, room) = written[0];
                 gilthoren_pack_lower(tables, tables_bytes, pack, bytes, takes[0], out, room, at)
+            }
+            Export::PackTotals => {
+                let ((tables, tables_bytes), (pack, bytes)) = (read(0), read(1));
+                gilthoren_pack_totals(tables, tables_bytes, pack, bytes, at, at.add(1), at.add(2))
             }
         }
     };

@@ -801,3 +801,14 @@ fn packs_by_the_request() {
     assert_eq!(read(&[0]), Err((13, 0)));
     assert_eq!(read(&[]), Err((13, 0)));
 }
+
+#[test]
+fn totals_by_the_request() {
+    let calls = (calls::family("totals").expect("a family").listed)();
+    let empty = [0, 0, 0, 0, -1, 0];
+    let pack = to_bytes(&[[3, 7, 6, 13, 0, 13, 6].as_slice(), &empty, &empty].concat());
+    let with =
+        |tables: &[i64]| calls.iter().find(|call| call.reads == [to_bytes(tables), pack.clone()]);
+    assert_eq!(with(&[0]).map(|call| call.answers.as_slice()), Some([0, 0, 12, 1].as_slice()));
+    assert_eq!(with(&[]).map(|call| call.answers.as_slice()), Some([0, 0, 0, 3].as_slice()));
+}

@@ -1,4 +1,4 @@
-/* Packs: a pack, a number, tables, the number of record bytes. */
+/* Packs and their totals: a pack, a number, tables, the number of record bytes. */
 #include "lent.h"
 
 struct found {
@@ -44,6 +44,24 @@ static void check_lower(const struct found *f, const struct lent *t, const struc
     free(one.all), free(two.all);
 }
 
+/* The totals are those of the sheets, lowered one by one from the first on. */
+static void check_totals(uint64_t answer, uint64_t place, const struct lent *t, const struct lent *p) {
+    uint64_t at = UINT64_MAX, records = UINT64_MAX, refused = UINT64_MAX, sum = 0, away = 0;
+    uint64_t number = gilthoren_pack_totals(t->bytes, t->length, p->bytes, p->length, &at, &records, &refused);
+    if (answer == GILTHOREN_BAD_PACK) {
+        must(number == answer && at == place && records == 0 && refused == 0, "the totals of a bad pack");
+        return;
+    }
+    struct found f;
+    for (uint64_t k = 0; (f = find(p, k)).answer == GILTHOREN_ACCEPTED; k++) {
+        uint8_t none;
+        uint64_t needed = 0, said = gilthoren_lower(t->bytes, t->length, p->bytes + f.from, f.length, &none, 0, &needed);
+        if (said == GILTHOREN_PAGE_FULL || said == GILTHOREN_ACCEPTED) sum += needed;
+        else away++;
+    }
+    must(number == GILTHOREN_ACCEPTED && at == 0 && records == sum && refused == away, "the totals");
+}
+
 int LLVMFuzzerTestOneInput(const uint8_t *data, size_t size);
 int LLVMFuzzerTestOneInput(const uint8_t *data, size_t size) {
     struct input in = {data, data + size};
@@ -56,6 +74,7 @@ int LLVMFuzzerTestOneInput(const uint8_t *data, size_t size) {
     check_found(&f, &pack);
     if (f.answer != GILTHOREN_BAD_PACK) check_tiles(&pack);
     check_lower(&f, &tables, &pack, n, room);
+    check_totals(f.answer, f.place, &tables, &pack);
     unharmed(&pack, &old_pack);
     unharmed(&tables, &old_tables);
     free(pack.all), free(tables.all), free(old_pack.all), free(old_tables.all);

@@ -18,6 +18,10 @@ IsLookUpNumber n = (n ≡ 0) ⊎ ((n ≡ noEntry) ⊎ (n ≡ badPack))
 abbrev pub IsPackNumber : ℕ → Type 0
 IsPackNumber n = IsNumber n ⊎ (n ≡ badPack)
 
+-- and that of a pack's totals
+abbrev pub IsTotalsNumber : ℕ → Type 0
+IsTotalsNumber n = (n ≡ 0) ⊎ (n ≡ badPack)
+
 -- of the plain test: 1 for yes, 0 for no
 abbrev pub yesOf : Option ℕ → ℕ
 yesOf none = 1

@@ -2,4 +2,5 @@
 pub mod lower;
 pub mod pack_lower;
 pub mod pack_sheet;
+pub mod pack_totals;
 pub mod plain_test;

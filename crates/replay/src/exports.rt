@@ -9,6 +9,7 @@ use crate::list::slice_in;
 use crate::report::difference;
 use engine::pack_lower::gilthoren_pack_lower;
 use engine::pack_sheet::gilthoren_pack_sheet;
+use engine::pack_totals::gilthoren_pack_totals;
 
 // It has an export's answer, and what it leaves at its pointers, in order.
 struct Said {
@@ -188,11 +189,54 @@ fn pack_lower(
     )
 }
 
+// The list has four answers behind tables and pack.
+fn pack_totals(
+    list: &[u8],
+    at: usize,
+    index: u64,
+    tables: &[u8],
+    pack: &[u8],
+    counts: &mut [u64; 32],
+) -> Place {
+    let mut place = 0;
+    let mut records = 0;
+    let mut refused = 0;
+    let answer = gilthoren_pack_totals(tables, pack, &mut place, &mut records, &mut refused);
+    let numbers = [answer, place, records, refused];
+    let Compared::At(next, same) = same_numbers(list, at, 4, Said { numbers }) else {
+        return Place::Bad;
+    };
+    if !same {
+        difference(index, 5, counts);
+    }
+    Place::At(next)
+}
+
+// It calls an export that is lent two slices to read.
+fn lent_two(
+    list: &[u8],
+    at: usize,
+    index: u64,
+    export: u64,
+    first: &[u8],
+    second: &[u8],
+    out: &mut [u8],
+    wanted: &mut [u8],
+    counts: &mut [u64; 32],
+) -> Place {
+    match export {
+        1 => pack_lower(list, at, index, first, second, out, wanted, counts),
+        2 => pack_totals(list, at, index, first, second, counts),
+        _ => Place::Bad,
+    }
+}
+
 // It reads two slices, and calls an export that is lent both.
 fn with_two(
     list: &[u8],
     at: usize,
     index: u64,
+    export: u64,
     first: &mut [u8],
     second: &mut [u8],
     out: &mut [u8],
@@ -211,10 +255,11 @@ fn with_two(
     if second.len() < b as usize {
         return Place::Bad;
     }
-    pack_lower(
+    lent_two(
         list,
         rest,
         index,
+        export,
         &first[..a as usize],
         &second[..b as usize],
         out,
@@ -239,8 +284,17 @@ fn call(
     };
     match export {
         0 => pack_sheet(list, next, index, second, counts),
-        1 => with_two(list, next, index, first, second, out, wanted, counts),
-        _ => Place::Bad,
+        _ => with_two(
+            list,
+            next,
+            index,
+            export,
+            first,
+            second,
+            out,
+            wanted,
+            counts,
+        ),
     }
 }
 

@@ -2,6 +2,7 @@
 //! their own, a file for each request. vectors/README.md has the form in a file.
 
 pub mod pack;
+pub mod totals;
 
 use crate::cases;
 use crate::compact::Case;
@@ -12,6 +13,7 @@ use crate::rng::Rng;
 pub enum Export {
     PackSheet,
     PackLower,
+    PackTotals,
 }
 
 /// How many slices a call reads, numbers it takes, slices it writes, and numbers it leaves behind its answer.
@@ -23,12 +25,13 @@ pub struct Shape {
 }
 
 impl Export {
-    pub const ALL: [Export; 2] = [Export::PackSheet, Export::PackLower];
+    pub const ALL: [Export; 3] = [Export::PackSheet, Export::PackLower, Export::PackTotals];
 
     pub fn shape(self) -> Shape {
         let (reads, takes, writes, leaves) = match self {
             Export::PackSheet => (1, 1, 0, 3),
             Export::PackLower => (2, 1, 1, 1),
+            Export::PackTotals => (2, 0, 0, 3),
         };
         Shape { reads, takes, writes, leaves }
     }
@@ -63,13 +66,13 @@ impl Written {
 
 /// What a request tests: listed calls, and random ones.
 pub struct Family {
-    #[cfg_attr(not(feature = "engine"), expect(dead_code))]
+    #[cfg_attr(not(any(feature = "engine", test)), expect(dead_code))]
     pub name: &'static str,
     pub listed: fn() -> Vec<Call>,
     pub draw: fn(&mut Rng, &Pool) -> Call,
 }
 
-pub const FAMILIES: [Family; 1] = [pack::FAMILY];
+pub const FAMILIES: [Family; 2] = [pack::FAMILY, totals::FAMILY];
 
 /// What random calls are made of.
 pub struct Pool {
@@ -105,7 +108,7 @@ fn family_fixed(family: &Family, pool: &Pool) -> Vec<Call> {
     calls
 }
 
-#[cfg(feature = "engine")]
+#[cfg(any(feature = "engine", test))]
 pub fn family(name: &str) -> Option<&'static Family> {
     FAMILIES.iter().find(|family| family.name == name)
 }

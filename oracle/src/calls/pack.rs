@@ -133,19 +133,31 @@ fn many(sheets: usize) -> Call {
     look_up(packed(&vec![Vec::new(); sheets]), sheets as u64 - 1)
 }
 
-fn draw(rng: &mut Rng, pool: &Pool) -> Call {
+/// The tables of one of its sheets, and a pack, one of four damaged.
+pub fn random(rng: &mut Rng, pool: &Pool) -> (Vec<u8>, Vec<u8>) {
     let cases: Vec<Case> = (0..rng.between(1, 4)).map(|_| pool.case(rng)).collect();
     let sheets: Vec<Vec<u8>> = cases.iter().map(|case| whole(&case.sheet)).collect();
     let mut pack = packed(&sheets);
-    let number = if rng.chance(1, 8) { rng.next() % 8 } else { rng.below(sheets.len()) as u64 };
     if rng.chance(1, 4) {
         damage_slice(rng, &mut pack);
     }
+    (cases[rng.below(cases.len())].tables.clone(), pack)
+}
+
+fn draw(rng: &mut Rng, pool: &Pool) -> Call {
+    let (tables, pack) = random(rng, pool);
+    let count = read(&pack).map_or(1, |sheets| sheets.len());
+    let number = if rng.chance(1, 8) { rng.next() % 8 } else { rng.below(count) as u64 };
     if rng.chance(1, 3) {
         return look_up(pack, number);
     }
-    let case = &cases[rng.below(cases.len())];
-    lower(case.tables.clone(), pack, number, case.out_len as usize)
+    let needed = lower(tables.clone(), pack.clone(), number, 1 << 20).answers[1] as usize * RECORD;
+    let room = match rng.below(6) {
+        0 => needed.saturating_sub(1),
+        1 | 2 => needed,
+        _ => rng.below(2 * needed + 200),
+    };
+    lower(tables, pack, number, room.min(1 << 16))
 }
 
 /// The whole cells of a sheet: a pack has no torn one inside.

@@ -1,0 +1,4 @@
+pub mod Few
+pub mod Orders
+pub mod Walks
+pub mod Examples
