@@ -17,9 +17,10 @@ use Rattle.ir.specs.Types.{Result, ok}
 use Rattle.ir.specs.Function.{Line, typeAt, instrAt, copyAt, unaryAt, binaryAt, castAt, zeroAt, callAt, labelAt, jumpAt, jumpIfNotAt, returnAt, argumentsAt, lineAt, linesAt, behind, bodyFrom}
 use Rattle.ir.proofs.Sheet.{lines-more}
 use Rattle.layout.specs.declared.Checked.{Checked}
+use Rattle.layout.specs.declared.Edition.{Edition}
 use Rattle.layout.specs.declared.Limited.{Limited}
 use Rattle.layout.specs.Limits.{mostArguments}
-use Rattle.layout.specs.Layout.{Laid, cursor, instrCheck, instrsCheck, headCheck}
+use Rattle.layout.specs.Layout.{Laid, cursor, instrsIn, instrCheck, instrsCheck, headCheck}
 use Rattle.layout.proofs.Passed as passed
 use Rattle.layout.proofs.Laws.{instr-right, instrs-more, head-few, head-starts}
 use Rattle.layout.proofs.Walk.{walk-from}
@@ -125,15 +126,15 @@ counted-refused (types.refused m) e = let z = e in cc
 -- The layout of an instruction is right.
 module _ (s : List ℕ) (c : Cursor) {d : Cursor} (e : instrCheck s c ≡ Checked.Behind d) where
   pub right-there : c .at + 1 ≤ cells s
-  right-there = omega (arith, instr-right s c e .there)
+  right-there = omega (arith, instr-right Edition.First s c e .there)
 
   pub right-behind : behind s (c .at) ≤ cells s
-  right-behind = let b = instr-right s c e in omega (arith, b .ends, b .within)
+  right-behind = let b = instr-right Edition.First s c e in omega (arith, b .ends, b .within)
 
   -- A call has few arguments.
   pub right-few : argumentsAt s (c .at) ≤ mostArguments
   unfolding argumentsAt
-  right-few = go (eqb (cellAt s (c .at)) 5) (λ t. instr-right s c e .few (eqb-true _ _ t))
+  right-few = go (eqb (cellAt s (c .at)) 5) (λ t. instr-right Edition.First s c e .few (eqb-true _ _ t))
     where
       go : (t : Bool) → (t ≡ true → cellAt s (c .at + 6) ≤ mostArguments) → cond t (cellAt s (c .at + 6)) 0 ≤ mostArguments
       go true f = f refl
@@ -142,23 +143,23 @@ module _ (s : List ℕ) (c : Cursor) {d : Cursor} (e : instrCheck s c ≡ Checke
 -- The first instruction is checked before the others.
 module _ (s : List ℕ) where
   instrs-behind : (n : ℕ) (c : Cursor) {d : Cursor} → 0 < n → instrCheck s c ≡ Checked.Behind d → instrsCheck s n c ≡ instrsCheck s (n - 1) d
-  unfolding instrsCheck
+  unfolding instrsIn
   instrs-behind zero c h e = absurd (omega arith)
   instrs-behind (suc n) c {d} h e = let l : suc n - 1 ≡ n = omega arith in rw (e, l) refl
 
   instrs-wrong : (n : ℕ) (c : Cursor) {m k : ℕ} → 0 < n → instrCheck s c ≡ Checked.Refused m k → instrsCheck s n c ≡ Checked.Refused m k
-  unfolding instrsCheck
+  unfolding instrsIn
   instrs-wrong zero c h e = absurd (omega arith)
   instrs-wrong (suc n) c h e = rw e refl
 
   instrs-none : (n : ℕ) (c : Cursor) → n ≤ 0 → instrsCheck s n c ≡ Checked.Behind c
-  unfolding instrsCheck
+  unfolding instrsIn
   instrs-none zero c h = refl
   instrs-none (suc n) c h = absurd (omega arith)
 
   instrs-right : (n : ℕ) (c : Cursor) {d : Cursor} → 0 < n → instrsCheck s n c ≡ Checked.Behind d → instrCheck s c ≡ Checked.Behind (cursor (behind s (c .at)))
   instrs-right zero c h e = absurd (omega arith)
-  instrs-right (suc n) c h e = instrs-more s n c e .0
+  instrs-right (suc n) c h e = instrs-more Edition.First s n c e .0
 
 -- ---- the loop
 
@@ -203,7 +204,7 @@ module _ {ctx : Context} {labels : ℕ} {ret : IrType} {s : List ℕ} {whole : O
 
     module _ {d : Cursor} (e : instrCheck s here ≡ Checked.Behind d) where
       left-is : linesAt s left (here .at) ≡ (lineAt s (here .at) ∷ linesAt s (left - 1) (d .at))
-      left-is = rw (instr-right s here e .ends) (lines-more s left (here .at) h)
+      left-is = rw (instr-right Edition.First s here e .ends) (lines-more s left (here .at) h)
 
       left-in-turn : withoutPlace (generateBody ctx labels ret i (linesAt s left (here .at))) ≡ then line (withoutPlace (later d))
       left-in-turn = rw (left-is, add-one i) (in-turn ctx labels ret i (lineAt s (here .at)) (linesAt s (left - 1) (d .at)))

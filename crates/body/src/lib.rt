@@ -9,6 +9,7 @@ use ir::read::behind;
 use ir::read::body_from;
 use ir::read::type_at;
 use layout::Checked;
+use layout::Edition;
 use layout::instrs::instr_check;
 use layout::instrs::instrs_check;
 use utils::CountResult;
@@ -52,7 +53,7 @@ fn rest_laid(sheet: &[u8], left: u64, next: Cursor, number: u64, i: u64) -> Surv
     ensures { λ r. ⌜ r ≡ surveyOf (instrsCheck (now (sheet .entry)) left next) (Passed.Refused number i) ⌝ }
     ensures { λ r. ⌜ madeIn r ≡ 0 ⌝ }
 {
-    match instrs_check(sheet, left, next) {
+    match instrs_check(Edition::First, sheet, left, next) {
         Checked::Behind(end) => Surveyed::Laid(Passed::Refused(number, i), end),
         Checked::Refused(n, k) => Surveyed::Wrong(n, k),
     }
@@ -66,7 +67,7 @@ fn next_line(sheet: &[u8], here: Cursor, write: bool) -> Checked
     if write {
         return Checked::Behind(Cursor::new(behind(sheet, here.at)));
     }
-    instr_check(sheet, here)
+    instr_check(Edition::First, sheet, here)
 }
 
 // It goes over the instructions from a cursor on. The records are counted, or they are written behind the `first` ones.

@@ -4,7 +4,7 @@ use mathlib.Core.Path.{refl, sym, ap₂, _∙_}
 use mathlib.Core.List.{List, _++_, map-append}
 use Rattle.cells.specs.Cells.{bytesOf, word, half, readCell, readWithin}
 use Rattle.ir.specs.Types.{bytes, offsetBehind, lastOffset, typeSize, isFloat, isUnsigned, elementWidth, elfSize, operandSize}
-use Rattle.layout.specs.Layout.{endCheck, floatsCheck, tablesCheck, limited, countCheck, zerosCheck, fieldsCheck, typeCheck, returnCheck, varCheck, operandCheck, operandsCheck, destCheck, sideCheck, callCheck, bodyCheck, instrCheck, typesCheck, varsCheck, instrsCheck, restHead, headCheck, sheetCheck}
+use Rattle.layout.specs.Layout.{endCheck, floatsCheck, tablesCheck, limited, countCheck, zerosCheck, fieldsCheck, typeCheck, returnCheck, varIn, operandIn, operandsIn, destIn, sideIn, callCheck, bodyIn, instrIn, typesCheck, paramIn, paramsIn, instrsIn, restIn, headIn, sheetIn}
 use Rattle.ir.specs.Function.{binaryOp, tablesOf, operandAt, unaryOp, instrAt, argumentsAt, behind, typesAt, varsAt, operandsAt, linesAt, functionOf}
 use Rattle.x86.specs.Records.{recordOf, recordBytes, listBytes}
 use Rattle.codegen.specs.Context.{displacement, stringAt, floatAt, floatShort, labelAt}
@@ -28,7 +28,7 @@ join a b p q =
 
 -- what the cases compute with: to unfold this is to unfold all of it
 opened : Type 0
-unfolding bytesOf word half readCell readWithin bytes typeSize isFloat isUnsigned elementWidth elfSize operandSize endCheck floatsCheck tablesCheck limited countCheck zerosCheck fieldsCheck typeCheck returnCheck varCheck operandCheck operandsCheck destCheck sideCheck callCheck bodyCheck instrCheck typesCheck varsCheck instrsCheck restHead headCheck sheetCheck binaryOp tablesOf operandAt unaryOp instrAt argumentsAt behind typesAt varsAt operandsAt linesAt functionOf recordOf recordBytes listBytes displacement stringAt floatAt floatShort labelAt sizeFrom varSize convertVar convertOperand ownSize loadFrom loadString loadValue loadOperand generateReturn operandKind generateCopy castOperand castBetween zeroExtended generateCast generateZero excess loadArguments pushArguments storeResult generateCall generateJmpIfNot generateLabel generateJump simpleOperation floatOperation twoLoads division multiplication shift unsignedCode compared floatComparison comparison generateBinary generateUnary offsetsFrom offsetBehind lastOffset haveWidths varOffsets storeParams copyParams funcPrologue generateInstr generateBody endsInRet withEpilogue generate compiled lowered recordsAfter number bitwise known x86.merge x86.find x86.exec x86.run steps.width steps.binary steps.unary steps.cast steps.find steps.exec steps.run offsetFrom frameBehind
+unfolding bytesOf word half readCell readWithin bytes typeSize isFloat isUnsigned elementWidth elfSize operandSize endCheck floatsCheck tablesCheck limited countCheck zerosCheck fieldsCheck typeCheck returnCheck varIn operandIn operandsIn destIn sideIn callCheck bodyIn instrIn typesCheck paramIn paramsIn instrsIn restIn headIn sheetIn binaryOp tablesOf operandAt unaryOp instrAt argumentsAt behind typesAt varsAt operandsAt linesAt functionOf recordOf recordBytes listBytes displacement stringAt floatAt floatShort labelAt sizeFrom varSize convertVar convertOperand ownSize loadFrom loadString loadValue loadOperand generateReturn operandKind generateCopy castOperand castBetween zeroExtended generateCast generateZero excess loadArguments pushArguments storeResult generateCall generateJmpIfNot generateLabel generateJump simpleOperation floatOperation twoLoads division multiplication shift unsignedCode compared floatComparison comparison generateBinary generateUnary offsetsFrom offsetBehind lastOffset haveWidths varOffsets storeParams copyParams funcPrologue generateInstr generateBody endsInRet withEpilogue generate compiled lowered recordsAfter number bitwise known x86.merge x86.find x86.exec x86.run steps.width steps.binary steps.unary steps.cast steps.find steps.exec steps.run offsetFrom frameBehind
 opened = Unit {0}
 
 lists-hold : HoldIn lists

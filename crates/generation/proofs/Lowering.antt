@@ -13,7 +13,7 @@ use Rattle.cells.specs.Refusals.{tornSheet, pageFull}
 use Rattle.layout.specs.declared.Checked.{Checked}
 use Rattle.layout.specs.declared.Limited.{Limited}
 use Rattle.layout.specs.Limits.{mostVariables, mostCount}
-use Rattle.layout.specs.Layout.{bindLimited, bindChecked, tablesCheck, headCheck, sheetCheck, instrsCheck, endCheck}
+use Rattle.layout.specs.Layout.{bindLimited, bindChecked, tablesCheck, headCheck, sheetIn, sheetCheck, instrsCheck, endCheck}
 use Rattle.layout.proofs.Laws.{head-total}
 use Rattle.ir.specs.declared.«Type».{«Type» as IrType}
 use Rattle.ir.specs.declared.types.Number.{Number}
@@ -86,7 +86,7 @@ module _ (tables s : List ℕ) where
   -- the layout of the sheet is its head's, then that of its instructions
   rest-checked : {c : Cursor} → headCheck s ≡ Limited.Word (cellAt s 5) c →
       sheetCheck s ≡ bindChecked Checked.Refused (instrsCheck s (cellAt s 5) c) (λ end. endCheck tornSheet s end)
-  unfolding sheetCheck
+  unfolding sheetIn
   rest-checked h = rw h refl
 
   -- behind tables that are right

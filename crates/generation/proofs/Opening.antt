@@ -14,7 +14,8 @@ use Rattle.ir.proofs.Sheet.{types-length}
 use Rattle.layout.specs.declared.Checked.{Checked}
 use Rattle.layout.specs.declared.Limited.{Limited}
 use Rattle.layout.specs.Limits.{mostVariables}
-use Rattle.layout.specs.Layout.{bindLimited, bindChecked, tablesCheck, headCheck, instrsCheck, endCheck, sheetCheck}
+use Rattle.layout.specs.declared.Edition.{Edition}
+use Rattle.layout.specs.Layout.{bindLimited, bindChecked, tablesCheck, headCheck, instrsCheck, endCheck, sheetIn, sheetCheck}
 use Rattle.layout.proofs.Laws.{head-right, head-header, head-vars}
 use Rattle.codegen.specs.Frame.{offsetsFrom}
 use Rattle.codegen.specs.Generation.{refused, checked, generate, compiled}
@@ -54,7 +55,7 @@ module _ (tables s : List ℕ) {total : Number} {from : Cursor} (e : opening tab
           record {
             end = d;
             first = p;
-            head = q ∙ ap (λ (m : ℕ). Limited.Word m c) (head-right s q .1) ∙ ap (λ (b : Cursor). Limited.Word (cellAt s 5) b) (sym (w .1));
+            head = q ∙ ap (λ (m : ℕ). Limited.Word m c) (head-right Edition.First s q .1) ∙ ap (λ (b : Cursor). Limited.Word (cellAt s 5) b) (sym (w .1));
             sizes = w .0;
           }
       go (Checked.Behind d) p (Limited.Refused n k) q z = never-sheet z
@@ -91,7 +92,7 @@ module _ (tables s : List ℕ) {total : Number} {from : Cursor} (e : opening tab
 
 -- a wrong cell of the head is the sheet's
 head-wrong : (s : List ℕ) {n k : ℕ} → headCheck s ≡ Limited.Refused n k → sheetCheck s ≡ Checked.Refused n k
-unfolding sheetCheck
+unfolding sheetIn
 head-wrong s e = rw e refl
 
 pub not-opened : (tables s : List ℕ) {n place : ℕ} → opening tables s ≡ Opened.Refused n place → compiled tables s ≡ refused n place

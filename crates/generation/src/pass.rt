@@ -12,6 +12,7 @@ use instructions::func_epilogue;
 use ir::types::Number;
 use ir::types::rounded_to_16;
 use layout::Checked;
+use layout::Edition;
 use layout::Limited;
 use layout::parts::end_check;
 use layout::sheet::head_check;
@@ -105,7 +106,7 @@ pub fn open_sheet(tables: &[u8], sheet: &[u8], offsets: &mut [u64; 256]) -> Open
     if let Checked::Refused(number, cell) = tables_check(tables) {
         return Opened::Refused(number as u64, cell as u64);
     }
-    match head_check(sheet) {
+    match head_check(Edition::First, sheet) {
         Limited::Word(_, from) => {
             let total = var_offsets(sheet, cell_at(sheet, 0), 6, offsets);
             Opened::Sheet(total, from)

@@ -14,9 +14,10 @@ use Rattle.cells.specs.Refusals.{tornSheet, oversize}
 use Rattle.ir.specs.Types.{noArray, offsetBehind, lastOffset}
 use Rattle.ir.specs.Function.{typeAt, typesAt, argumentsAt, behind, paramsFrom, bodyFrom}
 use Rattle.layout.specs.declared.Checked.{Checked}
+use Rattle.layout.specs.declared.Edition.{Edition}
 use Rattle.layout.specs.declared.Limited.{Limited}
 use Rattle.layout.specs.Limits.{mostVariables, mostParameters, mostLabels, mostInstructions, mostArguments, mostCount}
-use Rattle.layout.specs.Layout.{Laid, bindLimited, bindChecked, cursor, countCheck, zerosCheck, fieldsCheck, typeCheck, returnCheck, varCheck, firstField, flagField, operandCheck, operandsCheck, operationMost, hasDest, hasLeft, destCheck, sideCheck, callCheck, bodyCheck, instrCheck, typesCheck, varsCheck, instrsCheck, restHead, headCheck, sheetCheck}
+use Rattle.layout.specs.Layout.{Laid, bindLimited, bindChecked, cursor, countCheck, zerosCheck, fieldsCheck, typeCheck, returnCheck, ownIn, varIn, paramIn, paramWidth, holdsVar, firstField, flagField, operandIn, operandsIn, operationMost, hasDest, hasLeft, destIn, sideIn, callCheck, bodyIn, instrIn, typesCheck, paramsIn, instrsIn, bodyStart, restIn, headIn, sheetIn, headCheck}
 use Rattle.layout.proofs.Passed.{is-behind, is-word, place, same-word, kept, checked-passed, passed-at, word-passed, cell-passed, within-passed, limited-passed, at-end}
 
 -- ---- types, variables, operands
@@ -65,13 +66,6 @@ return-right s c {d} e =
         let q = count-right s (cursor (c .at + 1)) e in
         (omega arith, omega arith)
 
-pub var-right : (s : List ℕ) (c : Cursor) {d : Cursor} → varCheck s c ≡ Checked.Behind d → Spans s 3 c d
-unfolding varCheck
-var-right s c e =
-    let p = within-passed is-behind tornSheet s c 0 largest _ e in
-    let q = type-right s (cursor (c .at + 1)) (p .1) in
-    (omega arith, omega arith)
-
 fields-right : (s : List ℕ) (c : Cursor) (x y z : ℕ) {d : Cursor} → fieldsCheck s c x y z ≡ Checked.Behind d → Spans s 3 c d
 unfolding fieldsCheck
 fields-right s c x y z e =
@@ -81,18 +75,45 @@ fields-right s c x y z e =
     let b = place (r .1) in
     (omega arith, omega (arith, r .0 .there))
 
+zeros-right : (s : List ℕ) (n : ℕ) (c : Cursor) {d : Cursor} → zerosCheck s n c ≡ Checked.Behind d → (d .at ≡ c .at + n) × (c .at ≤ cells s → d .at ≤ cells s)
+unfolding zerosCheck
+zeros-right s zero c e = let l = place e in (omega arith, λ h. omega arith)
+zeros-right s (suc n) c e =
+    let p = within-passed is-behind tornSheet s c 0 0 _ e in
+    let q = zeros-right s n (cursor (c .at + 1)) (p .1) in
+    (omega arith, λ h. q .1 (omega arith))
+
+-- .. of a variable's own type
+own-right : (E : Edition) (s : List ℕ) (c : Cursor) {d : Cursor} → c .at ≤ cells s → ownIn E s c ≡ Checked.Behind d → Spans s 2 c d
+own-right Edition.First s c h e = type-right s c e
+own-right Edition.Second s c h e = let p = zeros-right s 2 c e in (p .0, omega (arith, p .0, p .1 h))
+
+pub var-right : (E : Edition) (s : List ℕ) (c : Cursor) {d : Cursor} → varIn E s c ≡ Checked.Behind d → Spans s 3 c d
+unfolding varIn
+var-right E s c e =
+    let p = within-passed is-behind tornSheet s c 0 largest _ e in
+    let q = own-right E s (cursor (c .at + 1)) (omega (arith, p .0 .there)) (p .1) in
+    (omega arith, omega arith)
+
+pub param-right : (E : Edition) (s : List ℕ) (c : Cursor) {d : Cursor} → paramIn E s c ≡ Checked.Behind d → Spans s (paramWidth E) c d
+unfolding paramIn
+param-right Edition.First s c e = var-right Edition.First s c e
+param-right Edition.Second s c e =
+    let p = within-passed is-behind tornSheet s c 0 largest _ e in
+    (place (p .1), omega (arith, p .0 .there))
+
 -- a variable, or three numbers behind the kind
-pub operand-right : (s : List ℕ) (c : Cursor) {d : Cursor} → operandCheck s c ≡ Checked.Behind d → Spans s 4 c d
-unfolding operandCheck
-operand-right s c {d} e = go (eqb n 0 || eqb n 4) (within-passed is-behind tornSheet s c 0 6 _ e .1)
+pub operand-right : (E : Edition) (s : List ℕ) (c : Cursor) {d : Cursor} → operandIn E s c ≡ Checked.Behind d → Spans s 4 c d
+unfolding operandIn
+operand-right E s c {d} e = go (holdsVar n) (within-passed is-behind tornSheet s c 0 6 _ e .1)
   where
     n : ℕ
     n = cellAt s (c .at)
 
-    go : (b : Bool) → cond b (varCheck s (cursor (c .at + 1))) (fieldsCheck s (cursor (c .at + 1)) (firstField n) (flagField n) (flagField n)) ≡ Checked.Behind d →
+    go : (b : Bool) → cond b (varIn E s (cursor (c .at + 1))) (fieldsCheck s (cursor (c .at + 1)) (firstField n) (flagField n) (flagField n)) ≡ Checked.Behind d →
         Spans s 4 c d
     go true e =
-        let p = var-right s (cursor (c .at + 1)) e in
+        let p = var-right E s (cursor (c .at + 1)) e in
         (omega arith, omega arith)
     go false e =
         let p = fields-right s (cursor (c .at + 1)) (firstField n) (flagField n) (flagField n) e in
@@ -124,23 +145,15 @@ module _ (s : List ℕ) (step : Cursor → Checked) (w : ℕ) where
         let p = checked-passed is-behind (step c) (rep n) (sym (more n c) ∙ e) in
         runs-more n (p .1) (runs rep none more n (p .0) (p .2))
 
-zeros-right : (s : List ℕ) (n : ℕ) (c : Cursor) {d : Cursor} → zerosCheck s n c ≡ Checked.Behind d → (d .at ≡ c .at + n) × (c .at ≤ cells s → d .at ≤ cells s)
-unfolding zerosCheck
-zeros-right s zero c e = let l = place e in (omega arith, λ h. omega arith)
-zeros-right s (suc n) c e =
-    let p = within-passed is-behind tornSheet s c 0 0 _ e in
-    let q = zeros-right s n (cursor (c .at + 1)) (p .1) in
-    (omega arith, λ h. q .1 (omega arith))
+pub operands-run : (E : Edition) (s : List ℕ) (n : ℕ) (c : Cursor) {d : Cursor} → operandsIn E s n c ≡ Checked.Behind d → Runs s (operandIn E s) 4 n c d
+unfolding operandsIn
+operands-run E s =
+    runs s (operandIn E s) 4 (λ c d e. operand-right E s c e) (operandsIn E s) (λ c. refl) (λ n c. refl)
 
-pub operands-run : (s : List ℕ) (n : ℕ) (c : Cursor) {d : Cursor} → operandsCheck s n c ≡ Checked.Behind d → Runs s (operandCheck s) 4 n c d
-unfolding operandsCheck
-operands-run s =
-    runs s (operandCheck s) 4 (λ c d e. operand-right s c e) (operandsCheck s) (λ c. refl) (λ n c. refl)
-
-pub vars-run : (s : List ℕ) (n : ℕ) (c : Cursor) {d : Cursor} → varsCheck s n c ≡ Checked.Behind d → Runs s (varCheck s) 3 n c d
-unfolding varsCheck
-vars-run s =
-    runs s (varCheck s) 3 (λ c d e. var-right s c e) (varsCheck s) (λ c. refl) (λ n c. refl)
+pub params-run : (E : Edition) (s : List ℕ) (n : ℕ) (c : Cursor) {d : Cursor} → paramsIn E s n c ≡ Checked.Behind d → Runs s (paramIn E s) (paramWidth E) n c d
+unfolding paramsIn
+params-run E s =
+    runs s (paramIn E s) (paramWidth E) (λ c d e. param-right E s c e) (paramsIn E s) (λ c. refl) (λ n c. refl)
 
 -- one type, whose offset the limit allows, and the types behind it
 pub types-more : (s : List ℕ) (n end : ℕ) (c : Cursor) {d : Cursor} → typesCheck s (suc n) end c ≡ Checked.Behind d →
@@ -170,15 +183,15 @@ types-total s (suc n) end c e h =
 
 -- ---- instructions
 
-pub dest-right : (s : List ℕ) (has : Bool) (c : Cursor) {d : Cursor} → destCheck s has c ≡ Checked.Behind d → (d .at ≡ c .at + 3) × (c .at ≤ cells s → d .at ≤ cells s)
-unfolding destCheck
-dest-right s true c e = let p = var-right s c e in (p .0, λ h. omega arith)
-dest-right s false c e = zeros-right s 3 c e
+pub dest-right : (E : Edition) (s : List ℕ) (has : Bool) (c : Cursor) {d : Cursor} → destIn E s has c ≡ Checked.Behind d → (d .at ≡ c .at + 3) × (c .at ≤ cells s → d .at ≤ cells s)
+unfolding destIn
+dest-right E s true c e = let p = var-right E s c e in (p .0, λ h. omega arith)
+dest-right E s false c e = zeros-right s 3 c e
 
-pub side-right : (s : List ℕ) (has : Bool) (c : Cursor) {d : Cursor} → sideCheck s has c ≡ Checked.Behind d → (d .at ≡ c .at + 4) × (c .at ≤ cells s → d .at ≤ cells s)
-unfolding sideCheck
-side-right s true c e = let p = operand-right s c e in (p .0, λ h. omega arith)
-side-right s false c e = zeros-right s 4 c e
+pub side-right : (E : Edition) (s : List ℕ) (has : Bool) (c : Cursor) {d : Cursor} → sideIn E s has c ≡ Checked.Behind d → (d .at ≡ c .at + 4) × (c .at ≤ cells s → d .at ≤ cells s)
+unfolding sideIn
+side-right E s true c e = let p = operand-right E s c e in (p .0, λ h. omega arith)
+side-right E s false c e = zeros-right s 4 c e
 
 -- a call's own cells
 call-right : (s : List ℕ) (k : ℕ) {n : ℕ} {d : Cursor} → callCheck s (cursor (k + 5)) ≡ Limited.Word n d →
@@ -194,15 +207,15 @@ call-right s k e =
     (omega (arith, z .0, z .1 (omega arith)), q .0 .most, w .0, omega (arith, z .0, w .1))
 
 -- left and right of any other instruction
-sides-right : (s : List ℕ) (k : ℕ) {d : Cursor} →
-    bindChecked Checked.Refused (sideCheck s (hasLeft (cellAt s k)) (cursor (k + 5))) (λ c1. sideCheck s (eqb (cellAt s k) 2) c1) ≡ Checked.Behind d →
+sides-right : (E : Edition) (s : List ℕ) (k : ℕ) {d : Cursor} →
+    bindChecked Checked.Refused (sideIn E s (hasLeft (cellAt s k)) (cursor (k + 5))) (λ c1. sideIn E s (eqb (cellAt s k) 2) c1) ≡ Checked.Behind d →
     k + 5 ≤ cells s →
     (d .at ≡ k + 13) × (k + 13 ≤ cells s)
-sides-right s k e h =
+sides-right E s k e h =
     let has = hasLeft (cellAt s k) in
-    let p = passed-at is-behind (sideCheck s has (cursor (k + 5))) _ (k + 9) (λ m e. let z = side-right s has (cursor (k + 5)) e in omega arith) e in
-    let a = side-right s has (cursor (k + 5)) (p .0) in
-    let b = side-right s (eqb (cellAt s k) 2) (cursor (k + 9)) (p .1) in
+    let p = passed-at is-behind (sideIn E s has (cursor (k + 5))) _ (k + 9) (λ m e. let z = side-right E s has (cursor (k + 5)) e in omega arith) e in
+    let a = side-right E s has (cursor (k + 5)) (p .0) in
+    let b = side-right E s (eqb (cellAt s k) 2) (cursor (k + 9)) (p .1) in
     (omega arith, omega (arith, b .1 (a .1 h)))
 
 -- an instruction, with a call's arguments
@@ -212,67 +225,69 @@ pub record RightInstr (s : List ℕ) (k : ℕ) (d : Cursor) : Type 0 where
   pub within : d .at ≤ cells s
   pub few : cellAt s k ≡ 5 → cellAt s (k + 6) ≤ mostArguments
 
-body-right : (s : List ℕ) (k : ℕ) {d : Cursor} → bodyCheck s (cellAt s k) (cursor (k + 5)) ≡ Checked.Behind d → k + 5 ≤ cells s → RightInstr s k d
-unfolding bodyCheck behind argumentsAt
-body-right s k {d} = go (eqb (cellAt s k) 5) refl
+body-right : (E : Edition) (s : List ℕ) (k : ℕ) {d : Cursor} → bodyIn E s (cellAt s k) (cursor (k + 5)) ≡ Checked.Behind d → k + 5 ≤ cells s → RightInstr s k d
+unfolding bodyIn behind argumentsAt
+body-right E s k {d} = go (eqb (cellAt s k) 5) refl
   where
     go : (b : Bool) → eqb (cellAt s k) 5 ≡ b →
-        cond b (bindLimited Checked.Refused (callCheck s (cursor (k + 5))) (λ count c1. operandsCheck s count c1))
-        (bindChecked Checked.Refused (sideCheck s (hasLeft (cellAt s k)) (cursor (k + 5))) (λ c1. sideCheck s (eqb (cellAt s k) 2) c1)) ≡ Checked.Behind d →
+        cond b (bindLimited Checked.Refused (callCheck s (cursor (k + 5))) (λ count c1. operandsIn E s count c1))
+        (bindChecked Checked.Refused (sideIn E s (hasLeft (cellAt s k)) (cursor (k + 5))) (λ c1. sideIn E s (eqb (cellAt s k) 2) c1)) ≡ Checked.Behind d →
         k + 5 ≤ cells s → RightInstr s k d
     go true p e h =
         let w = word-passed is-behind (callCheck s (cursor (k + 5))) _ e in
         let q = call-right s k (w .2) in
-        let r = operands-run s (w .0) (w .1) (w .3) in
+        let r = operands-run E s (w .0) (w .1) (w .3) in
         record { there = q .0; ends = rw p (omega (arith, r .ends, q .2, q .3)); within = r .within (omega (arith, q .0, q .3)); few = λ _. q .1 }
     go false p e h =
-        let q = sides-right s k e h in
+        let q = sides-right E s k e h in
         record { there = q .1; ends = rw p (omega arith); within = omega arith; few = λ t. absurd (eqb-false _ _ p t) }
 
-pub instr-right : (s : List ℕ) (c : Cursor) {d : Cursor} → instrCheck s c ≡ Checked.Behind d → RightInstr s (c .at) d
-unfolding instrCheck
-instr-right s c e =
+pub instr-right : (E : Edition) (s : List ℕ) (c : Cursor) {d : Cursor} → instrIn E s c ≡ Checked.Behind d → RightInstr s (c .at) d
+unfolding instrIn
+instr-right E s c e =
     let k = c .at in
     let n = cellAt s k in
     let has = hasDest n (cellAt s (k + 1)) in
     let p = within-passed is-behind tornSheet s c 0 10 _ e in
     let q = within-passed is-behind tornSheet s (cursor (k + 1)) 0 (operationMost n) _ (p .1) in
     let two : k + 1 + 1 ≡ k + 2 = omega arith in
-    let r = passed-at is-behind (destCheck s has (cursor (k + 2))) (λ c3. bodyCheck s n c3) (k + 5)
-    (λ m e. let z = dest-right s has (cursor (k + 2)) e in omega arith) (rw two at (q .1)) in
-    let z = dest-right s has (cursor (k + 2)) (r .0) in
-    body-right s k (r .1) (z .1 (omega arith))
+    let r = passed-at is-behind (destIn E s has (cursor (k + 2))) (λ c3. bodyIn E s n c3) (k + 5)
+    (λ m e. let z = dest-right E s has (cursor (k + 2)) e in omega arith) (rw two at (q .1)) in
+    let z = dest-right E s has (cursor (k + 2)) (r .0) in
+    body-right E s k (r .1) (z .1 (omega arith))
 
 -- the first instruction, and those behind it
-pub instrs-more : (s : List ℕ) (n : ℕ) (c : Cursor) {e : Cursor} → instrsCheck s (suc n) c ≡ Checked.Behind e →
-    (instrCheck s c ≡ Checked.Behind (cursor (behind s (c .at)))) × (instrsCheck s n (cursor (behind s (c .at))) ≡ Checked.Behind e)
-unfolding instrsCheck
-instrs-more s n c h =
-    passed-at is-behind (instrCheck s c) (λ next. instrsCheck s n next) (behind s (c .at)) (λ m e. instr-right s c e .ends) h
+pub instrs-more : (E : Edition) (s : List ℕ) (n : ℕ) (c : Cursor) {e : Cursor} → instrsIn E s (suc n) c ≡ Checked.Behind e →
+    (instrIn E s c ≡ Checked.Behind (cursor (behind s (c .at)))) × (instrsIn E s n (cursor (behind s (c .at))) ≡ Checked.Behind e)
+unfolding instrsIn
+instrs-more E s n c h =
+    passed-at is-behind (instrIn E s c) (λ next. instrsIn E s n next) (behind s (c .at)) (λ m e. instr-right E s c e .ends) h
 
-pub instrs-within : (s : List ℕ) (n : ℕ) (c : Cursor) {e : Cursor} → instrsCheck s n c ≡ Checked.Behind e → c .at ≤ cells s → e .at ≤ cells s
-unfolding instrsCheck
-instrs-within s zero c h l = let p = place h in omega arith
-instrs-within s (suc n) c h l =
-    let p = instrs-more s n c h in
-    instrs-within s n (cursor (behind s (c .at))) (p .1) (instr-right s c (p .0) .within)
+pub instrs-within : (E : Edition) (s : List ℕ) (n : ℕ) (c : Cursor) {e : Cursor} → instrsIn E s n c ≡ Checked.Behind e → c .at ≤ cells s → e .at ≤ cells s
+unfolding instrsIn
+instrs-within E s zero c h l = let p = place h in omega arith
+instrs-within E s (suc n) c h l =
+    let p = instrs-more E s n c h in
+    instrs-within E s n (cursor (behind s (c .at))) (p .1) (instr-right E s c (p .0) .within)
 
 -- ---- the sheet
 
 -- what stands before the instructions
-pub record RightHead (s : List ℕ) : Type 0 where
+pub record RightHead (E : Edition) (s : List ℕ) : Type 0 where
   pub header : 6 ≤ cells s
   pub vars : cellAt s 0 ≤ mostVariables
   pub params : cellAt s 1 ≤ mostParameters
   pub labels : cellAt s 2 ≤ mostLabels
+  pub returned : returnCheck s (cursor 3) ≡ Checked.Behind (cursor 5)
   pub instrs : cellAt s 5 ≤ mostInstructions
   pub types : typesCheck s (cellAt s 0) 0 (cursor 6) ≡ Checked.Behind (cursor (paramsFrom s))
-  pub within : bodyFrom s ≤ cells s
+  pub listed : paramsIn E s (cellAt s 1) (cursor (paramsFrom s)) ≡ Checked.Behind (cursor (bodyStart E s))
+  pub within : bodyStart E s ≤ cells s
 
 -- .. how many instructions there are, and where they start
-pub head-right : (s : List ℕ) {n : ℕ} {c : Cursor} → headCheck s ≡ Limited.Word n c → RightHead s × (n ≡ cellAt s 5) × (c .at ≡ bodyFrom s)
-unfolding headCheck restHead
-head-right s h =
+pub head-right : (E : Edition) (s : List ℕ) {n : ℕ} {c : Cursor} → headIn E s ≡ Limited.Word n c → RightHead E s × (n ≡ cellAt s 5) × (c .at ≡ bodyStart E s)
+unfolding headIn restIn
+head-right E s h =
     let vars = limited-passed is-word s (cursor 0) mostVariables _ h in
     let params = limited-passed is-word s (cursor 1) mostParameters _ (vars .1) in
     let labels = limited-passed is-word s (cursor 2) mostLabels _ (params .1) in
@@ -281,71 +296,78 @@ head-right s h =
     let types = passed-at is-word (typesCheck s (cellAt s 0) 0 (cursor 6)) _ (paramsFrom s)
     (λ m e. types-run s (cellAt s 0) 0 (cursor 6) e .ends) (instrs .1) in
     let from = cursor (paramsFrom s) in
-    let own = passed-at is-word (varsCheck s (cellAt s 1) from) _ (bodyFrom s) (λ m e. vars-run s (cellAt s 1) from e .ends) (types .1) in
+    let listed = passed-at is-word (paramsIn E s (cellAt s 1) from) _ (bodyStart E s) (λ m e. params-run E s (cellAt s 1) from e .ends) (types .1) in
     let inside = types-run s (cellAt s 0) 0 (cursor 6) (types .0) .within (instrs .0 .there) in
-    let w = same-word (own .1) in (
+    let w = same-word (listed .1) in (
       record {
         header = instrs .0 .there;
         vars = vars .0 .most;
         params = params .0 .most;
         labels = labels .0 .most;
+        returned = ret .0;
         instrs = instrs .0 .most;
         types = types .0;
-        within = vars-run s (cellAt s 1) from (own .0) .within inside;
+        listed = listed .0;
+        within = params-run E s (cellAt s 1) from (listed .0) .within inside;
       },
       w .0,
       w .1,
     )
 
-module _ (s : List ℕ) {n : ℕ} {c : Cursor} (h : headCheck s ≡ Limited.Word n c) where
-  pub head-header : 6 ≤ cells s
-  head-header = head-right s h .0 .header
-
-  pub head-vars : cellAt s 0 ≤ mostVariables
-  head-vars = head-right s h .0 .vars
-
-  pub head-params : cellAt s 1 ≤ mostParameters
-  head-params = head-right s h .0 .params
-
-  pub head-labels : cellAt s 2 ≤ mostLabels
-  head-labels = head-right s h .0 .labels
-
-  pub head-types : typesCheck s (cellAt s 0) 0 (cursor 6) ≡ Checked.Behind (cursor (paramsFrom s))
-  head-types = head-right s h .0 .types
-
-  pub head-within : bodyFrom s ≤ cells s
-  head-within = head-right s h .0 .within
-
-  pub head-few : cellAt s 5 ≤ mostInstructions
-  head-few = head-right s h .0 .instrs
-
-  pub head-starts : c .at ≡ bodyFrom s
-  head-starts = head-right s h .2
-
-  pub head-total : lastOffset 0 (typesAt s (cellAt s 0) 6) ≤ mostCount
-  head-total = types-total s (cellAt s 0) 0 (cursor 6) head-types (lit≤ tt)
-
-pub record Right (s : List ℕ) (e : Cursor) : Type 0 where
-  pub head : headCheck s ≡ Limited.Word (cellAt s 5) (cursor (bodyFrom s))
-  pub body : instrsCheck s (cellAt s 5) (cursor (bodyFrom s)) ≡ Checked.Behind e
+pub record Right (E : Edition) (s : List ℕ) (e : Cursor) : Type 0 where
+  pub head : headIn E s ≡ Limited.Word (cellAt s 5) (cursor (bodyStart E s))
+  pub body : instrsIn E s (cellAt s 5) (cursor (bodyStart E s)) ≡ Checked.Behind e
   pub whole : e .at * 8 ≡ length s
 
-pub sheet-right : (s : List ℕ) {e : Cursor} → sheetCheck s ≡ Checked.Behind e → Right s e
-unfolding sheetCheck
-sheet-right s h =
-    let w = word-passed is-behind (headCheck s) _ h in
-    let p = head-right s (w .2) in
-    let from : w .1 ≡ cursor (bodyFrom s) = ap cursor (p .2) in
-    let n = checked-passed is-behind (instrsCheck s (w .0) (w .1)) _ (w .3) in
+pub sheet-right : (E : Edition) (s : List ℕ) {e : Cursor} → sheetIn E s ≡ Checked.Behind e → Right E s e
+unfolding sheetIn
+sheet-right E s h =
+    let w = word-passed is-behind (headIn E s) _ h in
+    let p = head-right E s (w .2) in
+    let from : w .1 ≡ cursor (bodyStart E s) = ap cursor (p .2) in
+    let n = checked-passed is-behind (instrsIn E s (w .0) (w .1)) _ (w .3) in
     let z = at-end tornSheet s (n .0) (n .2) in
-    let body : instrsCheck s (cellAt s 5) (cursor (bodyFrom s)) ≡ Checked.Behind (n .0) = rw (← p .1, ← from) (n .1) in
-    let l = instrs-within s (cellAt s 5) (cursor (bodyFrom s)) body (p .0 .within) in
+    let body : instrsIn E s (cellAt s 5) (cursor (bodyStart E s)) ≡ Checked.Behind (n .0) = rw (← p .1, ← from) (n .1) in
+    let l = instrs-within E s (cellAt s 5) (cursor (bodyStart E s)) body (p .0 .within) in
     record {
       head = w .2 ∙ rw (p .1, from);
       body = body ∙ ap (λ (k : ℕ). Checked.Behind (cursor k)) (sym (z .0));
       whole = omega arith;
     }
 
+-- ---- the head of edition 1
+
+module _ (s : List ℕ) {n : ℕ} {c : Cursor} (h : headCheck s ≡ Limited.Word n c) where
+  first-head : RightHead Edition.First s
+  first-head = head-right Edition.First s h .0
+
+  pub head-header : 6 ≤ cells s
+  head-header = first-head .header
+
+  pub head-vars : cellAt s 0 ≤ mostVariables
+  head-vars = first-head .vars
+
+  pub head-params : cellAt s 1 ≤ mostParameters
+  head-params = first-head .params
+
+  pub head-labels : cellAt s 2 ≤ mostLabels
+  head-labels = first-head .labels
+
+  pub head-types : typesCheck s (cellAt s 0) 0 (cursor 6) ≡ Checked.Behind (cursor (paramsFrom s))
+  head-types = first-head .types
+
+  pub head-within : bodyFrom s ≤ cells s
+  head-within = first-head .within
+
+  pub head-few : cellAt s 5 ≤ mostInstructions
+  head-few = first-head .instrs
+
+  pub head-starts : c .at ≡ bodyFrom s
+  head-starts = head-right Edition.First s h .2
+
+  pub head-total : lastOffset 0 (typesAt s (cellAt s 0) 6) ≤ mostCount
+  head-total = types-total s (cellAt s 0) 0 (cursor 6) head-types (lit≤ tt)
+
 -- the head of a sheet whose layout is right
 pub head-laid : {s : List ℕ} → Laid s → headCheck s ≡ Limited.Word (cellAt s 5) (cursor (bodyFrom s))
-head-laid {s} r = sheet-right s (r .is) .head
+head-laid {s} r = sheet-right Edition.First s (r .is) .head

@@ -11,8 +11,9 @@ use Rattle.cells.specs.declared.Cell.{Cell}
 use Rattle.cells.specs.declared.Cursor.{Cursor}
 use Rattle.cells.specs.Refusals.{tornSheet}
 use Rattle.layout.specs.declared.Checked.{Checked}
+use Rattle.layout.specs.declared.Edition.{Edition}
 use Rattle.layout.specs.declared.Limited.{Limited}
-use Rattle.layout.specs.Layout.{bindLimited, bindChecked, zerosCheck, operandCheck, operandsCheck, hasLeft, sideCheck, callCheck, bodyCheck}
+use Rattle.layout.specs.Layout.{bindLimited, bindChecked, zerosCheck, operandIn, operandsIn, hasLeft, sideIn, callCheck, bodyIn}
 use Rattle.layout.specs.Sides.{sidesOf, unusedOf}
 
 -- a kind that is none of three
@@ -52,58 +53,58 @@ zeros-both s (suc m) n c =
     go f (Cell.Word v d) = f d
     go f (Cell.Wrong k) = refl
 
-module _ (s : List ℕ) (c : Cursor) where
+module _ (E : Edition) (s : List ℕ) (c : Cursor) where
   -- both are operands, left is one, or none is
   two-operands :
-      bindChecked Checked.Refused (operandCheck s c) (λ d. operandCheck s d)
-      ≡ bindChecked Checked.Refused (operandsCheck s 2 c) (λ d. zerosCheck s 0 d)
-  unfolding operandsCheck zerosCheck
-  two-operands = sym (last-one _ ∙ alike (operandCheck s c) (λ d. last-one (operandCheck s d)))
+      bindChecked Checked.Refused (operandIn E s c) (λ d. operandIn E s d)
+      ≡ bindChecked Checked.Refused (operandsIn E s 2 c) (λ d. zerosCheck s 0 d)
+  unfolding operandsIn zerosCheck
+  two-operands = sym (last-one _ ∙ alike (operandIn E s c) (λ d. last-one (operandIn E s d)))
 
   one-operand :
-      bindChecked Checked.Refused (operandCheck s c) (λ d. zerosCheck s 4 d)
-      ≡ bindChecked Checked.Refused (operandsCheck s 1 c) (λ d. zerosCheck s 4 d)
-  unfolding operandsCheck
-  one-operand = ap (λ (x : Checked). bindChecked Checked.Refused x (λ d. zerosCheck s 4 d)) (sym (last-one (operandCheck s c)))
+      bindChecked Checked.Refused (operandIn E s c) (λ d. zerosCheck s 4 d)
+      ≡ bindChecked Checked.Refused (operandsIn E s 1 c) (λ d. zerosCheck s 4 d)
+  unfolding operandsIn
+  one-operand = ap (λ (x : Checked). bindChecked Checked.Refused x (λ d. zerosCheck s 4 d)) (sym (last-one (operandIn E s c)))
 
   no-operand :
       bindChecked Checked.Refused (zerosCheck s 4 c) (λ d. zerosCheck s 4 d)
-      ≡ bindChecked Checked.Refused (operandsCheck s 0 c) (λ d. zerosCheck s 8 d)
-  unfolding operandsCheck
+      ≡ bindChecked Checked.Refused (operandsIn E s 0 c) (λ d. zerosCheck s 8 d)
+  unfolding operandsIn
   no-operand = zeros-both s 4 4 c
 
   -- of any kind
   two-sides : (kind : ℕ) →
-      bindChecked Checked.Refused (sideCheck s (hasLeft kind) c) (λ d. sideCheck s (eqb kind 2) d)
-      ≡ bindChecked Checked.Refused (operandsCheck s (sidesOf kind) c) (λ d. zerosCheck s (8 - 4 * sidesOf kind) d)
-  unfolding sideCheck
+      bindChecked Checked.Refused (sideIn E s (hasLeft kind) c) (λ d. sideIn E s (eqb kind 2) d)
+      ≡ bindChecked Checked.Refused (operandsIn E s (sidesOf kind) c) (λ d. zerosCheck s (8 - 4 * sidesOf kind) d)
+  unfolding sideIn
   two-sides kind = go (eqb kind 2) (hasLeft kind) (λ e. let l = eqb-true kind 2 e in rw l)
     where
       go : (both left : Bool) → (both ≡ true → left ≡ true) →
-          bindChecked Checked.Refused (cond left (operandCheck s c) (zerosCheck s 4 c)) (λ d. cond both (operandCheck s d) (zerosCheck s 4 d))
-          ≡ bindChecked Checked.Refused (operandsCheck s (cond both 2 (cond left 1 0)) c) (λ d. zerosCheck s (8 - 4 * cond both 2 (cond left 1 0)) d)
+          bindChecked Checked.Refused (cond left (operandIn E s c) (zerosCheck s 4 c)) (λ d. cond both (operandIn E s d) (zerosCheck s 4 d))
+          ≡ bindChecked Checked.Refused (operandsIn E s (cond both 2 (cond left 1 0)) c) (λ d. zerosCheck s (8 - 4 * cond both 2 (cond left 1 0)) d)
       go true left h = rw (h refl) two-operands
       go false true h = one-operand
       go false false h = no-operand
 
   -- a call's arguments among them
   pub one-list : (kind : ℕ) →
-      bodyCheck s kind c
+      bodyIn E s kind c
       ≡ bindLimited Checked.Refused (cond (eqb kind 5) (callCheck s c) (Limited.Word (sidesOf kind) c))
-      (λ n d. bindChecked Checked.Refused (operandsCheck s n d) (λ e. zerosCheck s (unusedOf kind) e))
-  unfolding bodyCheck zerosCheck
+      (λ n d. bindChecked Checked.Refused (operandsIn E s n d) (λ e. zerosCheck s (unusedOf kind) e))
+  unfolding bodyIn zerosCheck
   one-list kind = go (eqb kind 5)
     where
       arguments : (x : Limited) →
-          bindLimited Checked.Refused x (λ n d. operandsCheck s n d)
-          ≡ bindLimited Checked.Refused x (λ n d. bindChecked Checked.Refused (operandsCheck s n d) (λ e. Checked.Behind e))
-      arguments (Limited.Word n d) = sym (last-one (operandsCheck s n d))
+          bindLimited Checked.Refused x (λ n d. operandsIn E s n d)
+          ≡ bindLimited Checked.Refused x (λ n d. bindChecked Checked.Refused (operandsIn E s n d) (λ e. Checked.Behind e))
+      arguments (Limited.Word n d) = sym (last-one (operandsIn E s n d))
       arguments (Limited.Refused n k) = refl
 
       go : (call : Bool) →
-          cond call (bindLimited Checked.Refused (callCheck s c) (λ n d. operandsCheck s n d))
-          (bindChecked Checked.Refused (sideCheck s (hasLeft kind) c) (λ d. sideCheck s (eqb kind 2) d))
+          cond call (bindLimited Checked.Refused (callCheck s c) (λ n d. operandsIn E s n d))
+          (bindChecked Checked.Refused (sideIn E s (hasLeft kind) c) (λ d. sideIn E s (eqb kind 2) d))
           ≡ bindLimited Checked.Refused (cond call (callCheck s c) (Limited.Word (sidesOf kind) c))
-          (λ n d. bindChecked Checked.Refused (operandsCheck s n d) (λ e. zerosCheck s (cond call 0 (8 - 4 * sidesOf kind)) e))
+          (λ n d. bindChecked Checked.Refused (operandsIn E s n d) (λ e. zerosCheck s (cond call 0 (8 - 4 * sidesOf kind)) e))
       go true = arguments (callCheck s c)
       go false = two-sides kind

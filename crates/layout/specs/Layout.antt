@@ -1,5 +1,5 @@
 -- Believed: refusals 1 to 3 rest on it. The layout of tables and sheet: which cell is the first wrong one, in reading order
--- (docs/FORMAT.md, "Tables", "Sheet", "Limits", "Refusals").
+-- (docs/FORMAT.md, "Tables", "Sheet", "Edition 2", "Limits", "Refusals"). One check reads both editions of a sheet: they differ in `ownIn` and `paramIn` alone.
 use Prim.Native.Nat.{ℕ, zero, suc, _+_, _*_, _-_, _^_}
 use mathlib.Core.Path.{_≡_}
 use mathlib.Core.List.{List}
@@ -11,8 +11,10 @@ use Rattle.cells.specs.declared.Cursor.{Cursor}
 use Rattle.cells.specs.Refusals.{badTable, tornSheet, oversize}
 use Rattle.layout.specs.declared.Limited.{Limited}
 use Rattle.layout.specs.declared.Checked.{Checked}
+use Rattle.layout.specs.declared.Edition.{Edition}
 use Rattle.layout.specs.Limits.{mostStrings, mostFloats, mostVariables, mostParameters, mostLabels, mostInstructions, mostArguments, mostCount}
 use Rattle.ir.specs.Types.{noArray, offsetBehind}
+use Rattle.ir.specs.Function.{paramsFrom}
 
 -- ---- what follows a part that is right; a refusal stands
 
@@ -81,9 +83,24 @@ returnCheck s c =
     bindCell (Checked.Refused tornSheet) (readWithin s c 0 12) (λ code next.
     cond (eqb code 0) (bindCell (Checked.Refused tornSheet) (readWithin s next noArray noArray) (λ count c2. Checked.Behind c2)) (countCheck s next))
 
+-- the two cells behind a variable's id: its own type, and 0 in edition 2 (M-109)
+abbrev pub ownIn : Edition → List ℕ → Cursor → Checked
+ownIn Edition.First s c = typeCheck s c
+ownIn Edition.Second s c = zerosCheck s 2 c
+
 -- a variable is an id and its own type
-unfoldable pub varCheck : List ℕ → Cursor → Checked
-varCheck s c = bindCell (Checked.Refused tornSheet) (readWithin s c 0 largest) (λ id next. typeCheck s next)
+unfoldable pub varIn : Edition → List ℕ → Cursor → Checked
+varIn e s c = bindCell (Checked.Refused tornSheet) (readWithin s c 0 largest) (λ id next. ownIn e s next)
+
+-- a parameter is a variable, and in edition 2 its id alone (M-109)
+unfoldable pub paramIn : Edition → List ℕ → Cursor → Checked
+paramIn Edition.First s c = varIn Edition.First s c
+paramIn Edition.Second s c = bindCell (Checked.Refused tornSheet) (readWithin s c 0 largest) (λ id next. Checked.Behind next)
+
+-- how many cells that is
+abbrev pub paramWidth : Edition → ℕ
+paramWidth Edition.First = 3
+paramWidth Edition.Second = 1
 
 -- the bounds of an operand's fields, by its position in Krc's `Operand`: 1 Int has any number and two flags, 2 Float and 5 DataAddress a
 -- number, 3 Bool a flag, 6 Null nothing
@@ -93,15 +110,19 @@ firstField kind = cond (eqb kind 1) (2 ^ 64 - 1) (cond (eqb kind 3) 1 (cond (eqb
 abbrev pub flagField : ℕ → ℕ
 flagField kind = cond (eqb kind 1) 1 0
 
--- an operand is four cells: 0 Var and 4 Address hold a variable
-unfoldable pub operandCheck : List ℕ → Cursor → Checked
-operandCheck s c =
-    bindCell (Checked.Refused tornSheet) (readWithin s c 0 6) (λ kind next.
-    cond (eqb kind 0 || eqb kind 4) (varCheck s next) (fieldsCheck s next (firstField kind) (flagField kind) (flagField kind)))
+-- 0 Var and 4 Address hold a variable
+abbrev pub holdsVar : ℕ → Bool
+holdsVar kind = eqb kind 0 || eqb kind 4
 
-unfoldable pub operandsCheck : List ℕ → ℕ → Cursor → Checked
-operandsCheck s zero c = Checked.Behind c
-operandsCheck s (suc n) c = bindChecked Checked.Refused (operandCheck s c) (λ next. operandsCheck s n next)
+-- an operand is four cells
+unfoldable pub operandIn : Edition → List ℕ → Cursor → Checked
+operandIn e s c =
+    bindCell (Checked.Refused tornSheet) (readWithin s c 0 6) (λ kind next.
+    cond (holdsVar kind) (varIn e s next) (fieldsCheck s next (firstField kind) (flagField kind) (flagField kind)))
+
+unfoldable pub operandsIn : Edition → List ℕ → ℕ → Cursor → Checked
+operandsIn e s zero c = Checked.Behind c
+operandsIn e s (suc n) c = bindChecked Checked.Refused (operandIn e s c) (λ next. operandsIn e s n next)
 
 -- ---- instructions: position in Krc's `Instr`, operation, dest (3), left (4), right (4); a call's arguments follow
 -- 0 Copy, 1 Unary, 2 Binary, 3 Cast, 4 Zero, 5 Call, 6 Label, 7 Jump, 8 JumpIfNot, 9 Return, 10 Comment
@@ -119,11 +140,11 @@ hasDest kind operation = ltb kind 5 || (eqb kind 5 && eqb operation 1)
 abbrev pub hasLeft : ℕ → Bool
 hasLeft kind = ltb kind 4 || (eqb kind 8 || eqb kind 9)
 
-unfoldable pub destCheck : List ℕ → Bool → Cursor → Checked
-destCheck s has c = cond has (varCheck s c) (zerosCheck s 3 c)
+unfoldable pub destIn : Edition → List ℕ → Bool → Cursor → Checked
+destIn e s has c = cond has (varIn e s c) (zerosCheck s 3 c)
 
-unfoldable pub sideCheck : List ℕ → Bool → Cursor → Checked
-sideCheck s has c = cond has (operandCheck s c) (zerosCheck s 4 c)
+unfoldable pub sideIn : Edition → List ℕ → Bool → Cursor → Checked
+sideIn e s has c = cond has (operandIn e s c) (zerosCheck s 4 c)
 
 -- a call has symbol number and argument count in left's first two cells; the count, and the cursor of the first argument
 unfoldable pub callCheck : List ℕ → Cursor → Limited
@@ -133,16 +154,16 @@ callCheck s c =
     bindChecked Limited.Refused (zerosCheck s 6 c2) (λ c3. Limited.Word count c3)))
 
 -- a call's own cells and its arguments; left and right of any other kind
-unfoldable pub bodyCheck : List ℕ → ℕ → Cursor → Checked
-bodyCheck s kind c =
-    cond (eqb kind 5) (bindLimited Checked.Refused (callCheck s c) (λ count c1. operandsCheck s count c1))
-    (bindChecked Checked.Refused (sideCheck s (hasLeft kind) c) (λ c1. sideCheck s (eqb kind 2) c1))
+unfoldable pub bodyIn : Edition → List ℕ → ℕ → Cursor → Checked
+bodyIn e s kind c =
+    cond (eqb kind 5) (bindLimited Checked.Refused (callCheck s c) (λ count c1. operandsIn e s count c1))
+    (bindChecked Checked.Refused (sideIn e s (hasLeft kind) c) (λ c1. sideIn e s (eqb kind 2) c1))
 
-unfoldable pub instrCheck : List ℕ → Cursor → Checked
-instrCheck s c =
+unfoldable pub instrIn : Edition → List ℕ → Cursor → Checked
+instrIn e s c =
     bindCell (Checked.Refused tornSheet) (readWithin s c 0 10) (λ kind c1.
     bindCell (Checked.Refused tornSheet) (readWithin s c1 0 (operationMost kind)) (λ operation c2.
-    bindChecked Checked.Refused (destCheck s (hasDest kind operation) c2) (λ c3. bodyCheck s kind c3)))
+    bindChecked Checked.Refused (destIn e s (hasDest kind operation) c2) (λ c3. bodyIn e s kind c3)))
 
 -- ---- the lists
 
@@ -154,37 +175,58 @@ typesCheck s (suc n) end c =
     let offset : ℕ = offsetBehind end (record { code = cellAt s (c .at); count = cellAt s (c .at + 1) }) in
     cond (ltb mostCount offset) (Checked.Refused oversize (c .at + 1)) (typesCheck s n offset next))
 
-unfoldable pub varsCheck : List ℕ → ℕ → Cursor → Checked
-varsCheck s zero c = Checked.Behind c
-varsCheck s (suc n) c = bindChecked Checked.Refused (varCheck s c) (λ next. varsCheck s n next)
+unfoldable pub paramsIn : Edition → List ℕ → ℕ → Cursor → Checked
+paramsIn e s zero c = Checked.Behind c
+paramsIn e s (suc n) c = bindChecked Checked.Refused (paramIn e s c) (λ next. paramsIn e s n next)
 
-unfoldable pub instrsCheck : List ℕ → ℕ → Cursor → Checked
-instrsCheck s zero c = Checked.Behind c
-instrsCheck s (suc n) c = bindChecked Checked.Refused (instrCheck s c) (λ next. instrsCheck s n next)
+unfoldable pub instrsIn : Edition → List ℕ → ℕ → Cursor → Checked
+instrsIn e s zero c = Checked.Behind c
+instrsIn e s (suc n) c = bindChecked Checked.Refused (instrIn e s c) (λ next. instrsIn e s n next)
 
 -- ---- the sheet: variable count, parameter count, label count, return type, instruction count; then variable types, parameters, instructions
 
+-- the cell of the first instruction, which of edition 1 is ir's `bodyFrom`
+abbrev pub bodyStart : Edition → List ℕ → ℕ
+bodyStart e s = paramsFrom s + paramWidth e * cellAt s 1
+
 -- the head from the return type on, of so many variables and parameters; the number of instructions, and the cursor of the first
-unfoldable pub restHead : List ℕ → ℕ → ℕ → Cursor → Limited
-restHead s vars params c =
+unfoldable pub restIn : Edition → List ℕ → ℕ → ℕ → Cursor → Limited
+restIn e s vars params c =
     bindChecked Limited.Refused (returnCheck s c) (λ c1.
     bindLimited Limited.Refused (limited s c1 mostInstructions) (λ instrs c2.
     bindChecked Limited.Refused (typesCheck s vars 0 c2) (λ c3.
-    bindChecked Limited.Refused (varsCheck s params c3) (λ c4. Limited.Word instrs c4))))
+    bindChecked Limited.Refused (paramsIn e s params c3) (λ c4. Limited.Word instrs c4))))
 
 -- the head, which is all before the instructions
-unfoldable pub headCheck : List ℕ → Limited
-headCheck s =
+unfoldable pub headIn : Edition → List ℕ → Limited
+headIn e s =
     bindLimited Limited.Refused (limited s (cursor 0) mostVariables) (λ vars c1.
     bindLimited Limited.Refused (limited s c1 mostParameters) (λ params c2.
-    bindLimited Limited.Refused (limited s c2 mostLabels) (λ labels c3. restHead s vars params c3)))
+    bindLimited Limited.Refused (limited s c2 mostLabels) (λ labels c3. restIn e s vars params c3)))
 
-unfoldable pub sheetCheck : List ℕ → Checked
-sheetCheck s =
-    bindLimited Checked.Refused (headCheck s) (λ instrs c.
-    bindChecked Checked.Refused (instrsCheck s instrs c) (λ end. endCheck tornSheet s end))
+unfoldable pub sheetIn : Edition → List ℕ → Checked
+sheetIn e s =
+    bindLimited Checked.Refused (headIn e s) (λ instrs c.
+    bindChecked Checked.Refused (instrsIn e s instrs c) (λ end. endCheck tornSheet s end))
 
 -- the layout of a sheet is right
-pub record Laid (s : List ℕ) : Type 0 where
+pub record LaidIn (e : Edition) (s : List ℕ) : Type 0 where
   pub end : Cursor
-  pub is : sheetCheck s ≡ Checked.Behind end
+  pub is : sheetIn e s ≡ Checked.Behind end
+
+-- ---- edition 1, which the lowering reads
+
+abbrev pub instrCheck : List ℕ → Cursor → Checked
+instrCheck = instrIn Edition.First
+
+abbrev pub instrsCheck : List ℕ → ℕ → Cursor → Checked
+instrsCheck = instrsIn Edition.First
+
+abbrev pub headCheck : List ℕ → Limited
+headCheck = headIn Edition.First
+
+abbrev pub sheetCheck : List ℕ → Checked
+sheetCheck = sheetIn Edition.First
+
+abbrev pub Laid : List ℕ → Type 0
+Laid = LaidIn Edition.First

@@ -1,4 +1,4 @@
--- Auxiliary: left and right as a list of operands and the unused cells behind them, equal to `bodyCheck` by `one-list` (proofs/Sides.antt).
+-- Auxiliary: left and right as a list of operands and the unused cells behind them, equal to `bodyIn` by `one-list` (proofs/Sides.antt).
 use Prim.Native.Nat.{ℕ, _*_, _-_}
 use mathlib.Core.Bool.{cond}
 use lib.Dec.{eqb}

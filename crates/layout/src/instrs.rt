@@ -1,5 +1,6 @@
 // An instruction is its position in Krc's `Instr`, its operation, dest (3 cells), left (4) and right (4); a call's arguments follow.
 use crate::Checked;
+use crate::Edition;
 use crate::Limited;
 use crate::limits::MOST_ARGUMENTS;
 use crate::parts::LARGEST;
@@ -15,7 +16,7 @@ ghost use Prim.Native.Nat.{_≤_};
 ghost use mathlib.Core.Bool.{cond};
 ghost use lib.Dec.{eqb};
 ghost use Rattle.layout.specs.declared.Limited.{Limited};
-ghost use Rattle.layout.specs.Layout.{operationMost, hasDest, hasLeft, destCheck, callCheck, bodyCheck, instrCheck, instrsCheck};
+ghost use Rattle.layout.specs.Layout.{operationMost, hasDest, hasLeft, destIn, callCheck, bodyIn, instrIn, instrsIn};
 ghost use Rattle.layout.specs.Sides.{sidesOf, unusedOf};
 
 fn operation_most(kind: u64) -> u64
@@ -56,11 +57,11 @@ fn has_left(kind: u64) -> bool
     }
 }
 
-fn dest_check(s: &[u8], has: bool, c: Cursor) -> Checked
-    ensures { λ r. ⌜ r ≡ destCheck (now (s .entry)) has c ⌝ }
+fn dest_check(e: Edition, s: &[u8], has: bool, c: Cursor) -> Checked
+    ensures { λ r. ⌜ r ≡ destIn e (now (s .entry)) has c ⌝ }
 {
     if has {
-        var_check(s, c)
+        var_check(e, s, c)
     } else {
         zeros_check(s, 3, c)
     }
@@ -113,11 +114,11 @@ fn operands_of(s: &[u8], kind: u64, c: Cursor) -> Limited
 }
 
 // Left, right and a call's arguments are read as one list, so that `operands_check` is called from one place, where it is inlined.
-fn body_check(s: &[u8], kind: u64, c: Cursor) -> Checked
-    ensures { λ r. ⌜ r ≡ bodyCheck (now (s .entry)) kind c ⌝ }
+fn body_check(e: Edition, s: &[u8], kind: u64, c: Cursor) -> Checked
+    ensures { λ r. ⌜ r ≡ bodyIn e (now (s .entry)) kind c ⌝ }
 {
     match operands_of(s, kind, c) {
-        Limited::Word(count, c1) => match operands_check(s, count, c1) {
+        Limited::Word(count, c1) => match operands_check(e, s, count, c1) {
             Checked::Behind(c2) => zeros_check(s, unused_of(kind), c2),
             Checked::Refused(n, k) => Checked::Refused(n, k),
         },
@@ -125,13 +126,13 @@ fn body_check(s: &[u8], kind: u64, c: Cursor) -> Checked
     }
 }
 
-pub fn instr_check(s: &[u8], c: Cursor) -> Checked
-    ensures { λ r. ⌜ r ≡ instrCheck (now (s .entry)) c ⌝ }
+pub fn instr_check(e: Edition, s: &[u8], c: Cursor) -> Checked
+    ensures { λ r. ⌜ r ≡ instrIn e (now (s .entry)) c ⌝ }
 {
     match c.within(s, 0, 10) {
         Cell::Word(kind, c1) => match c1.within(s, 0, operation_most(kind)) {
-            Cell::Word(operation, c2) => match dest_check(s, has_dest(kind, operation), c2) {
-                Checked::Behind(c3) => body_check(s, kind, c3),
+            Cell::Word(operation, c2) => match dest_check(e, s, has_dest(kind, operation), c2) {
+                Checked::Behind(c3) => body_check(e, s, kind, c3),
                 Checked::Refused(n, k) => Checked::Refused(n, k),
             },
             Cell::Wrong(k) => Checked::Refused(TORN_SHEET, k),
@@ -140,13 +141,13 @@ pub fn instr_check(s: &[u8], c: Cursor) -> Checked
     }
 }
 
-pub fn instrs_check(s: &[u8], n: u64, c: Cursor) -> Checked
-    ensures { λ r. ⌜ r ≡ instrsCheck (now (s .entry)) n c ⌝ }
+pub fn instrs_check(e: Edition, s: &[u8], n: u64, c: Cursor) -> Checked
+    ensures { λ r. ⌜ r ≡ instrsIn e (now (s .entry)) n c ⌝ }
 {
     let mut left = n;
     let mut here = c;
     while 0 < left {
-        match instr_check(s, here) {
+        match instr_check(e, s, here) {
             Checked::Behind(next) => {
                 here = next;
             }

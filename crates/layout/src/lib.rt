@@ -8,6 +8,12 @@ pub mod tables;
 
 use cells::Cursor;
 
+// The lowering reads edition 1 of a sheet. In edition 2 a variable does not repeat the type of its entry.
+pub enum Edition {
+    First,
+    Second,
+}
+
 // Reading a cell with a limit finds the cell and the cursor behind it, or the refusal's number and cell.
 pub enum Limited {
     Word(u64, Cursor),

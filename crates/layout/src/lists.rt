@@ -1,14 +1,15 @@
 // The variable types and the parameters of a sheet are checked one after the other.
 use crate::Checked;
+use crate::Edition;
 use crate::limits::MOST_COUNT;
+use crate::parts::param_check;
 use crate::parts::type_check;
-use crate::parts::var_check;
 use cells::Cursor;
 use cells::refusals::OVERSIZE;
 use ir::read::type_at;
 use ir::types::offset_behind;
 ghost use mathlib.Core.Path.{_≡_};
-ghost use Rattle.layout.specs.Layout.{typesCheck, varsCheck};
+ghost use Rattle.layout.specs.Layout.{typesCheck, paramsIn};
 
 // An offset stays within its limit: the count cell of the variable that first passes it is refused.
 pub(crate) fn types_check(s: &[u8], n: u64, c: Cursor) -> Checked
@@ -32,13 +33,13 @@ pub(crate) fn types_check(s: &[u8], n: u64, c: Cursor) -> Checked
     Checked::Behind(here)
 }
 
-pub(crate) fn vars_check(s: &[u8], n: u64, c: Cursor) -> Checked
-    ensures { λ r. ⌜ r ≡ varsCheck (now (s .entry)) n c ⌝ }
+pub(crate) fn params_check(e: Edition, s: &[u8], n: u64, c: Cursor) -> Checked
+    ensures { λ r. ⌜ r ≡ paramsIn e (now (s .entry)) n c ⌝ }
 {
     let mut left = n;
     let mut here = c;
     while 0 < left {
-        match var_check(s, here) {
+        match param_check(e, s, here) {
             Checked::Behind(next) => {
                 here = next;
             }

@@ -1,5 +1,6 @@
 // The cells, types, variables and operands of a sheet are checked here.
 use crate::Checked;
+use crate::Edition;
 use crate::Limited;
 use crate::limits::MOST_COUNT;
 use cells::Cell;
@@ -8,7 +9,7 @@ use cells::refusals::OVERSIZE;
 use cells::refusals::TORN_SHEET;
 use ir::Type;
 ghost use mathlib.Core.Path.{_≡_};
-ghost use Rattle.layout.specs.Layout.{endCheck, limited, countCheck, zerosCheck, fieldsCheck, typeCheck, returnCheck, varCheck, firstField, operandCheck, operandsCheck};
+ghost use Rattle.layout.specs.Layout.{endCheck, limited, countCheck, zerosCheck, fieldsCheck, typeCheck, returnCheck, ownIn, varIn, paramIn, firstField, operandIn, operandsIn};
 
 // This is the largest number that is not negative.
 pub const LARGEST: u64 = 0x7fff_ffff_ffff_ffff;
@@ -129,13 +130,36 @@ pub(crate) fn return_check(s: &[u8], c: Cursor) -> Checked
     }
 }
 
+// In edition 2 the two cells of a variable's own type are 0.
+fn own_check(e: Edition, s: &[u8], c: Cursor) -> Checked
+    ensures { λ r. ⌜ r ≡ ownIn e (now (s .entry)) c ⌝ }
+{
+    match e {
+        Edition::First => type_check(s, c),
+        Edition::Second => zeros_check(s, 2, c),
+    }
+}
+
 // A variable is an id and its own type.
-pub(crate) fn var_check(s: &[u8], c: Cursor) -> Checked
-    ensures { λ r. ⌜ r ≡ varCheck (now (s .entry)) c ⌝ }
+pub(crate) fn var_check(e: Edition, s: &[u8], c: Cursor) -> Checked
+    ensures { λ r. ⌜ r ≡ varIn e (now (s .entry)) c ⌝ }
 {
     match c.within(s, 0, LARGEST) {
-        Cell::Word(_, next) => type_check(s, next),
+        Cell::Word(_, next) => own_check(e, s, next),
         Cell::Wrong(k) => Checked::Refused(TORN_SHEET, k),
+    }
+}
+
+// A parameter is a variable. In edition 2 it is its id alone.
+pub(crate) fn param_check(e: Edition, s: &[u8], c: Cursor) -> Checked
+    ensures { λ r. ⌜ r ≡ paramIn e (now (s .entry)) c ⌝ }
+{
+    match e {
+        Edition::First => var_check(Edition::First, s, c),
+        Edition::Second => match c.within(s, 0, LARGEST) {
+            Cell::Word(_, next) => Checked::Behind(next),
+            Cell::Wrong(k) => Checked::Refused(TORN_SHEET, k),
+        },
     }
 }
 
@@ -152,27 +176,27 @@ fn first_field(kind: u64) -> u64
 }
 
 // An operand is four cells: 0 Var and 4 Address hold a variable, and 1 Int has flags.
-fn operand_check(s: &[u8], c: Cursor) -> Checked
-    ensures { λ r. ⌜ r ≡ operandCheck (now (s .entry)) c ⌝ }
+fn operand_check(e: Edition, s: &[u8], c: Cursor) -> Checked
+    ensures { λ r. ⌜ r ≡ operandIn e (now (s .entry)) c ⌝ }
 {
     match c.within(s, 0, 6) {
         Cell::Word(kind, next) => match kind {
-            0 => var_check(s, next),
+            0 => var_check(e, s, next),
             1 => fields_check(s, next, first_field(kind), 1, 1),
-            4 => var_check(s, next),
+            4 => var_check(e, s, next),
             _ => fields_check(s, next, first_field(kind), 0, 0),
         },
         Cell::Wrong(k) => Checked::Refused(TORN_SHEET, k),
     }
 }
 
-pub(crate) fn operands_check(s: &[u8], n: u64, c: Cursor) -> Checked
-    ensures { λ r. ⌜ r ≡ operandsCheck (now (s .entry)) n c ⌝ }
+pub(crate) fn operands_check(e: Edition, s: &[u8], n: u64, c: Cursor) -> Checked
+    ensures { λ r. ⌜ r ≡ operandsIn e (now (s .entry)) n c ⌝ }
 {
     let mut left = n;
     let mut here = c;
     while 0 < left {
-        match operand_check(s, here) {
+        match operand_check(e, s, here) {
             Checked::Behind(next) => {
                 here = next;
             }

@@ -9,7 +9,7 @@ use lib.ListN.{length, replicate}
 use Rattle.cells.specs.Cells.{bytesOf, minus, word, half, readCell, readWithin}
 use Rattle.ir.specs.Types.{bytes, offsetBehind, lastOffset, typeSize, isFloat, isUnsigned, elementWidth, elfSize, operandSize}
 use Rattle.ir.specs.Function.{tablesOf, operandAt, instrAt, argumentsAt, behind, typesAt, varsAt, operandsAt, linesAt, functionOf}
-use Rattle.layout.specs.Layout.{endCheck, floatsCheck, tablesCheck, limited, countCheck, zerosCheck, fieldsCheck, typeCheck, returnCheck, varCheck, operandCheck, operandsCheck, destCheck, sideCheck, callCheck, bodyCheck, instrCheck, typesCheck, varsCheck, instrsCheck, restHead, headCheck, sheetCheck}
+use Rattle.layout.specs.Layout.{endCheck, floatsCheck, tablesCheck, limited, countCheck, zerosCheck, fieldsCheck, typeCheck, returnCheck, varIn, operandIn, operandsIn, destIn, sideIn, callCheck, bodyIn, instrIn, typesCheck, paramIn, paramsIn, instrsIn, restIn, headIn, sheetIn}
 use Rattle.x86.specs.declared.enums.Instruction.{Instruction}
 use Rattle.codegen.specs.Context.{displacement}
 use Rattle.codegen.specs.Utils.{sizeFrom, varSize, convertVar, convertOperand, ownSize, loadFrom, loadValue, loadOperand}
@@ -68,7 +68,7 @@ pub record Premises : Type 0 where
   pub enters : Entry entry
 
 pub premises : Premises
-unfolding bytesOf word half readCell readWithin bytes offsetBehind lastOffset typeSize isFloat isUnsigned elementWidth elfSize operandSize tablesOf operandAt instrAt argumentsAt behind typesAt varsAt operandsAt linesAt functionOf endCheck floatsCheck tablesCheck limited countCheck zerosCheck fieldsCheck typeCheck returnCheck varCheck operandCheck operandsCheck destCheck sideCheck callCheck bodyCheck instrCheck typesCheck varsCheck instrsCheck restHead headCheck sheetCheck displacement sizeFrom varSize convertVar convertOperand ownSize loadFrom loadValue loadOperand generateReturn offsetsFrom haveWidths varOffsets excess storeParams copyParams funcPrologue generateInstr generateBody endsInRet withEpilogue generate compiled lowered every areDistinct isPlainHead isPlainInstr isPlainAt isFault
+unfolding bytesOf word half readCell readWithin bytes offsetBehind lastOffset typeSize isFloat isUnsigned elementWidth elfSize operandSize tablesOf operandAt instrAt argumentsAt behind typesAt varsAt operandsAt linesAt functionOf endCheck floatsCheck tablesCheck limited countCheck zerosCheck fieldsCheck typeCheck returnCheck varIn operandIn operandsIn destIn sideIn callCheck bodyIn instrIn typesCheck paramIn paramsIn instrsIn restIn headIn sheetIn displacement sizeFrom varSize convertVar convertOperand ownSize loadFrom loadValue loadOperand generateReturn offsetsFrom haveWidths varOffsets excess storeParams copyParams funcPrologue generateInstr generateBody endsInRet withEpilogue generate compiled lowered every areDistinct isPlainHead isPlainInstr isPlainAt isFault
 premises =
     record {
       accepts = refl;

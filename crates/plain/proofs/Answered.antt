@@ -13,12 +13,14 @@ use Rattle.cells.specs.Cells.{cellAt}
 use Rattle.cells.specs.declared.Cursor.{Cursor}
 use Rattle.layout.specs.declared.Checked.{Checked}
 use Rattle.layout.specs.Layout.{tablesCheck, sheetCheck, Laid}
+use Rattle.layout.specs.declared.Edition.{Edition}
 use Rattle.layout.proofs.Laws.{sheet-right, head-labels}
+use Rattle.layout.proofs.Refused.{off-by, tables-off, sheet-off}
 use Rattle.ir.specs.Function.{Function, Line, tablesOf, functionOf, bodyFrom}
 use Rattle.ir.proofs.Sheet.{lines-length}
 use Rattle.x86.specs.declared.enums.Instruction.{Instruction}
 use Rattle.codegen.specs.Generation.{Outcome, accepted, refused, generate, checked, compiled}
-use Rattle.codegen.proofs.Refusals.{tables-off, sheet-off, four-to-seven}
+use Rattle.codegen.proofs.Refusals.{four-to-seven}
 use Rattle.machine.specs.Plain.{isPlainHead, isPlainInstr, isPlainLine, isPlainAt, isRefusedAt, isFault, firstFault}
 use Rattle.machine.proofs.Accepted.{never}
 use Rattle.machine.proofs.Run.{le-or-lt}
@@ -98,7 +100,7 @@ module _ (t s : List ℕ) where
 
     few-labels : functionOf s .labels ≤ 256
     unfolding functionOf
-    few-labels = head-labels s (sheet-right s b .head)
+    few-labels = head-labels s (sheet-right Edition.First s b .head)
 
     -- a condition that is broken
     broken : (k : ℕ) → isPlainAt (functionOf s) k ≡ false → isFault t s k ≡ true
@@ -160,8 +162,8 @@ module _ (t s : List ℕ) where
       go : (a : Checked) → tablesCheck t ≡ a → (b : Checked) → sheetCheck s ≡ b
           → checked a (λ u. checked b (λ v. generate (tablesOf t) (functionOf s))) ≡ refused n place → Right × (generate (tablesOf t) (functionOf s) ≡ refused n place)
       go (Checked.Behind c) p (Checked.Behind d) q e = (record { tables-end = c; tables-right = p; sheet-end = d; sheet-right = q }, e)
-      go (Checked.Behind c) p (Checked.Refused m k) q e = let l : m ≡ n = same-number e in let (x, y) = sheet-off s .of m k q in absurd (omega arith)
-      go (Checked.Refused m k) p b q e = let l : m ≡ n = same-number e in let (x, y) = tables-off t .of m k p in absurd (omega arith)
+      go (Checked.Behind c) p (Checked.Refused m k) q e = let l : m ≡ n = same-number e in let (x, y) = off-by (sheet-off Edition.First s) q in absurd (omega arith)
+      go (Checked.Refused m k) p b q e = let l : m ≡ n = same-number e in let x = off-by (tables-off t) p in absurd (omega arith)
 
   -- ---- what the functions answer
 

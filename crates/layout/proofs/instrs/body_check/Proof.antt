@@ -11,16 +11,16 @@ returns c =
     let operands = q .before .before in
     let r = operands .before .before in
     c .zeros-check .ensures
-    ∙ sym (one-list _ _ _ ∙ simp (← r .before .before .operands-of .ensures, r .count .given .1, ← operands .operands-check .ensures, q .c2 .given .1, ← unused))
+    ∙ sym (one-list _ _ _ _ ∙ simp (← r .before .before .operands-of .ensures, r .count .given .1, ← operands .operands-check .ensures, q .c2 .given .1, ← unused))
 
 returns-2 : tie.Need-returns-2
 returns-2 c =
     let operands = c .before .before .before in
     let r = operands .before .before in
-    sym (one-list _ _ _ ∙ simp (← r .before .before .operands-of .ensures, r .count .given .1, ← operands .operands-check .ensures, c .before .n .given .1))
+    sym (one-list _ _ _ _ ∙ simp (← r .before .before .operands-of .ensures, r .count .given .1, ← operands .operands-check .ensures, c .before .n .given .1))
 
 returns-3 : tie.Need-returns-3
-returns-3 c = sym (one-list _ _ _ ∙ simp (← c .before .before .before .operands-of .ensures, c .before .n2 .given .1))
+returns-3 c = sym (one-list _ _ _ _ ∙ simp (← c .before .before .before .operands-of .ensures, c .before .n2 .given .1))
 
 pub body-check-spec : {M : Type 1} → statement M
 body-check-spec =

@@ -1,10 +1,10 @@
-use Rattle.layout.specs.Layout.{instrCheck}
+use Rattle.layout.specs.Layout.{instrIn}
 use borrow.Author.Needs.{needs}
 use Rattle.layout.proofs.instrs.instr_check.Statement.{statement}
 use Rattle.layout.proofs.instrs.instr_check.Tie as tie
 
 returns : tie.Need-returns
-unfolding instrCheck
+unfolding instrIn
 returns c =
     let p = c .before .before in
     let q = p .before .before in
@@ -25,7 +25,7 @@ returns c =
     )
 
 returns-2 : tie.Need-returns-2
-unfolding instrCheck
+unfolding instrIn
 returns-2 c =
     let p = c .before .before .before in
     let q = p .before .before .before in
@@ -44,7 +44,7 @@ returns-2 c =
     )
 
 returns-3 : tie.Need-returns-3
-unfolding instrCheck
+unfolding instrIn
 returns-3 c =
     let p = c .before .before .before in
     let q = p .before .before .before in
@@ -52,7 +52,7 @@ returns-3 c =
     simp (← r .within .ensures, q .kind .given .1, ← p .before .operation-most .ensures, ← p .within2 .ensures, c .before .k .given .1)
 
 returns-4 : tie.Need-returns-4
-unfolding instrCheck
+unfolding instrIn
 returns-4 c = simp (← c .before .before .before .within .ensures, c .before .k2 .given .1)
 
 pub instr-check-spec : {M : Type 1} → statement M

@@ -1,34 +1,34 @@
 use borrow.Author.Needs.{needs}
 use native.Mathlib.Omega.{arith}
 use mathlib.Core.Path.{refl}
-use Rattle.layout.specs.Layout.{instrsCheck}
+use Rattle.layout.specs.Layout.{instrsIn}
 use Rattle.layout.proofs.Turns.{Left, goes-on, stops, ends}
 use Rattle.layout.proofs.instrs.instrs_check.Statement.{statement}
 use Rattle.layout.proofs.instrs.instrs_check.Tie as tie
 
 abbrev Inv-loop : tie.InvT-loop
-Inv-loop s n left₀ here₀ left here = Left (instrsCheck s) (instrsCheck s n here₀) left here
+Inv-loop e s n left₀ here₀ left here = Left (instrsIn e s) (instrsIn e s n here₀) left here
 
 abbrev μ-loop : tie.MeasureT-loop
-μ-loop s n left₀ here₀ left here = left
+μ-loop e s n left₀ here₀ left here = left
 
 loop-holds : tie.Need-loop-holds Inv-loop μ-loop
 loop-holds c = record { is = refl }
 
 returns : tie.Need-returns Inv-loop μ-loop
-unfolding instrsCheck
+unfolding instrsIn
 returns c =
     let p = c .before .before .before in
     stops _ _ (p .before .before .loop .inv) (omega (arith, p .before .loop-test .taken)) (simp (← p .instr-check .ensures, c .before .number .given .1))
 
 loop-again : tie.Need-loop-again Inv-loop μ-loop
-unfolding instrsCheck
+unfolding instrsIn
 loop-again c =
     let p = c .before .before .before in
     goes-on _ _ (p .before .before .loop .inv) _ (omega (arith, p .before .loop-test .taken)) (simp (← p .instr-check .ensures, c .before .next .given .1))
 
 returns-2 : tie.Need-returns-2 Inv-loop μ-loop
-unfolding instrsCheck
+unfolding instrsIn
 returns-2 c = ends _ _ (c .before .loop .inv) (omega (arith, c .loop-test .left)) refl
 
 pub instrs-check-spec : {M : Type 1} → statement M

@@ -1,7 +1,7 @@
 use Prim.Native.Nat.{ℕ}
 use mathlib.Core.Path.{_≡_, ap, _∙_}
 use Rattle.layout.specs.Limits.{mostVariables}
-use Rattle.layout.specs.Layout.{cursor, limited, headCheck}
+use Rattle.layout.specs.Layout.{cursor, limited, headIn}
 use borrow.Author.Needs.{needs}
 use Rattle.layout.proofs.sheet.head_check.Statement.{statement}
 use Rattle.layout.proofs.sheet.head_check.Tie as tie
@@ -11,7 +11,7 @@ read : (c : tie.After-limited) → c .limited .result ≡ limited (c .before .be
 read c = c .limited .ensures ∙ ap (λ (k : ℕ). limited (c .before .before .before .args .s .now) (cursor k) mostVariables) (c .before .new .ensures)
 
 returns : tie.Need-returns
-unfolding headCheck
+unfolding headIn
 returns c =
     let labels = c .before .before .before .before in
     let params = labels .before .before .before .before in
@@ -27,7 +27,7 @@ returns c =
     )
 
 returns-2 : tie.Need-returns-2
-unfolding headCheck
+unfolding headIn
 returns-2 c =
     let labels = c .before .before .before in
     let params = labels .before .before .before .before in
@@ -42,14 +42,14 @@ returns-2 c =
     )
 
 returns-3 : tie.Need-returns-3
-unfolding headCheck
+unfolding headIn
 returns-3 c =
     let params = c .before .before .before in
     let vars = params .before .before .before .before in
     simp (← read vars, params .before .before .vars .given .1, ← params .limited2 .ensures, c .before .n2 .given .1)
 
 returns-4 : tie.Need-returns-4
-unfolding headCheck
+unfolding headIn
 returns-4 c = simp (← read (c .before .before .before), c .before .n3 .given .1)
 
 pub head-check-spec : {M : Type 1} → statement M

@@ -1,14 +1,14 @@
-use Rattle.layout.specs.Layout.{restHead}
+use Rattle.layout.specs.Layout.{restIn}
 use borrow.Author.Needs.{needs}
 use Rattle.layout.proofs.sheet.rest_head.Statement.{statement}
 use Rattle.layout.proofs.sheet.rest_head.Tie as tie
 
 returns : tie.Need-returns
-unfolding restHead
+unfolding restIn
 returns c = simp (← c .before .before .before .return-check .ensures, c .before .n .given .1)
 
 returns-2 : tie.Need-returns-2
-unfolding restHead
+unfolding restIn
 returns-2 c =
     let own = c .before .before .before in
     let types = own .before .before .before .before in
@@ -21,12 +21,12 @@ returns-2 c =
       types .before .before .instrs .given .1,
       ← types .types-check .ensures,
       own .before .before .c3 .given .1,
-      ← own .vars-check .ensures,
+      ← own .params-check .ensures,
       c .before .c4 .given .1,
     )
 
 returns-3 : tie.Need-returns-3
-unfolding restHead
+unfolding restIn
 returns-3 c =
     let own = c .before .before .before in
     let types = own .before .before .before .before in
@@ -39,12 +39,12 @@ returns-3 c =
       types .before .before .instrs .given .1,
       ← types .types-check .ensures,
       own .before .before .c3 .given .1,
-      ← own .vars-check .ensures,
+      ← own .params-check .ensures,
       c .before .n2 .given .1,
     )
 
 returns-4 : tie.Need-returns-4
-unfolding restHead
+unfolding restIn
 returns-4 c =
     let types = c .before .before .before in
     let count = types .before .before .before .before in
@@ -59,7 +59,7 @@ returns-4 c =
     )
 
 returns-5 : tie.Need-returns-5
-unfolding restHead
+unfolding restIn
 returns-5 c =
     let count = c .before .before .before in
     let ret = count .before .before .before .before in

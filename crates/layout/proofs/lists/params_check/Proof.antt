@@ -1,38 +1,38 @@
 use borrow.Author.Needs.{needs}
 use native.Mathlib.Omega.{arith}
 use mathlib.Core.Path.{refl}
-use Rattle.layout.specs.Layout.{varsCheck}
+use Rattle.layout.specs.Layout.{paramsIn}
 use Rattle.layout.proofs.Turns.{Left, goes-on, stops, ends}
-use Rattle.layout.proofs.lists.vars_check.Statement.{statement}
-use Rattle.layout.proofs.lists.vars_check.Tie as tie
+use Rattle.layout.proofs.lists.params_check.Statement.{statement}
+use Rattle.layout.proofs.lists.params_check.Tie as tie
 
 abbrev Inv-loop : tie.InvT-loop
-Inv-loop s n left₀ here₀ left here = Left (varsCheck s) (varsCheck s n here₀) left here
+Inv-loop e s n left₀ here₀ left here = Left (paramsIn e s) (paramsIn e s n here₀) left here
 
 abbrev μ-loop : tie.MeasureT-loop
-μ-loop s n left₀ here₀ left here = left
+μ-loop e s n left₀ here₀ left here = left
 
 loop-holds : tie.Need-loop-holds Inv-loop μ-loop
 loop-holds c = record { is = refl }
 
 returns : tie.Need-returns Inv-loop μ-loop
-unfolding varsCheck
+unfolding paramsIn
 returns c =
     let p = c .before .before .before in
-    stops _ _ (p .before .before .loop .inv) (p .before .loop-test .taken) (simp (← p .var-check .ensures, c .before .number .given .1))
+    stops _ _ (p .before .before .loop .inv) (p .before .loop-test .taken) (simp (← p .param-check .ensures, c .before .number .given .1))
 
 loop-again : tie.Need-loop-again Inv-loop μ-loop
-unfolding varsCheck
+unfolding paramsIn
 loop-again c =
     let p = c .before .before .before in
-    goes-on _ _ (p .before .before .loop .inv) _ (p .before .loop-test .taken) (simp (← p .var-check .ensures, c .before .next .given .1))
+    goes-on _ _ (p .before .before .loop .inv) _ (p .before .loop-test .taken) (simp (← p .param-check .ensures, c .before .next .given .1))
 
 returns-2 : tie.Need-returns-2 Inv-loop μ-loop
-unfolding varsCheck
+unfolding paramsIn
 returns-2 c = ends _ _ (c .before .loop .inv) (c .loop-test .left) refl
 
-pub vars-check-spec : {M : Type 1} → statement M
-vars-check-spec =
+pub params-check-spec : {M : Type 1} → statement M
+params-check-spec =
     tie.close
     (tie.spec
     Inv-loop μ-loop loop-holds (λ c κs. search needs) (λ c. search needs) (λ c. search needs) returns (λ c. omega arith) (λ c. omega arith)
