@@ -1,6 +1,6 @@
 -- Believed: cells of a byte list: eight bytes each, little-endian, two's complement, counted from 0 (docs/FORMAT.md, "Cells").
 -- A byte is taken modulo 256 where it is read, so that every cell is below 2 ^ 64 whatever the list holds.
-use Prim.Native.Nat.{ℕ, _+_, _*_, _-_, _/_, _%_, _^_}
+use Prim.Native.Nat.{ℕ, zero, suc, _+_, _*_, _-_, _/_, _%_, _^_, _<_}
 use mathlib.Core.List.{List, [], _∷_, _++_}
 use mathlib.Core.Bool.{cond}
 use lib.ListN.{length, getD, take, drop}
@@ -64,3 +64,19 @@ bytesOf v =
 -- the list with bs in the place of as many bytes from `at` on; proofs use the laws of proofs/Bytes.antt
 unfoldable pub write : List ℕ → ℕ → List ℕ → List ℕ
 write s at bs = take at s ++ bs ++ drop (at + length bs) s
+
+-- ---- lists of cells
+
+-- n cells from cell k on
+unfoldable pub cellsFrom : List ℕ → ℕ → ℕ → List ℕ
+cellsFrom s k zero = []
+cellsFrom s k (suc n) = cellAt s k ∷ cellsFrom s (k + 1) n
+
+-- their bytes
+unfoldable pub cellBytes : List ℕ → List ℕ
+cellBytes [] = []
+cellBytes (x ∷ xs) = bytesOf x ++ cellBytes xs
+
+-- every element of a list is a byte
+abbrev pub Bytes : List ℕ → Type 0
+Bytes s = (i : ℕ) → getD s i 0 < 256

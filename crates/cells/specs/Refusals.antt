@@ -30,3 +30,6 @@ pageFull = 9
 
 abbrev pub badPack : ℕ
 badPack = 13
+
+abbrev pub typeDiffers : ℕ
+typeDiffers = 17

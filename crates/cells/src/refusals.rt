@@ -17,3 +17,5 @@ pub const NO_LOWERING: u64 = 7;
 pub const PAGE_FULL: u64 = 9;
 
 pub const BAD_PACK: u8 = 13;
+
+pub const TYPE_DIFFERS: u64 = 17;

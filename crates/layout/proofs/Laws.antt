@@ -1,7 +1,7 @@
 -- What a layout that is right tells: where its parts end, and what their cells hold.
 use Prim.Native.Nat.{ℕ, zero, suc, _+_, _*_, _≤_}
 use mathlib.Core.Path.{_≡_, refl, sym, ap, _∙_}
-use mathlib.Core.Bool.{Bool, true, false, cond, _||_}
+use mathlib.Core.Bool.{Bool, true, false, cond}
 use mathlib.Core.List.{List}
 use native.Mathlib.Omega.{arith}
 use native.Mathlib.Nat.{mul-suc}
@@ -194,7 +194,7 @@ side-right E s true c e = let p = operand-right E s c e in (p .0, λ h. omega ar
 side-right E s false c e = zeros-right s 4 c e
 
 -- a call's own cells
-call-right : (s : List ℕ) (k : ℕ) {n : ℕ} {d : Cursor} → callCheck s (cursor (k + 5)) ≡ Limited.Word n d →
+pub call-right : (s : List ℕ) (k : ℕ) {n : ℕ} {d : Cursor} → callCheck s (cursor (k + 5)) ≡ Limited.Word n d →
     (k + 13 ≤ cells s) × (cellAt s (k + 6) ≤ mostArguments) × (n ≡ cellAt s (k + 6)) × (d .at ≡ k + 13)
 unfolding callCheck
 call-right s k e =

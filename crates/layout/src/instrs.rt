@@ -34,7 +34,7 @@ fn operation_most(kind: u64) -> u64
 }
 
 // The first five kinds have a dest, and a call whose operation is 1.
-fn has_dest(kind: u64, operation: u64) -> bool
+pub fn has_dest(kind: u64, operation: u64) -> bool
     ensures { λ r. ⌜ r ≡ hasDest kind operation ⌝ }
 {
     if kind < 5 {
@@ -44,7 +44,7 @@ fn has_dest(kind: u64, operation: u64) -> bool
 }
 
 // One-operand kinds use left, and a Binary.
-fn has_left(kind: u64) -> bool
+pub fn has_left(kind: u64) -> bool
     ensures { λ r. ⌜ r ≡ hasLeft kind ⌝ }
 {
     if kind < 4 {

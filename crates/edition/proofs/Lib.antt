@@ -1,0 +1,13 @@
+pub mod Back
+pub mod Conversions
+pub mod Examples
+pub mod Kept
+pub mod Lines
+pub mod Moves
+pub mod Numbers
+pub mod Parts
+pub mod Same
+pub mod Sheets
+pub mod Strays
+pub mod Turns
+pub mod Written
