@@ -2,11 +2,12 @@
 -- "Also added: the plain test").
 use Prim.Native.Nat.{ℕ, _≤_}
 use mathlib.Core.Path.{_≡_}
+use mathlib.Core.List.{[], _∷_, List·Memᴰ}
 use mathlib.Core.Option.{Option, none, some}
 use mathlib.Core.Logic.{_⊎_}
-use Rattle.cells.specs.Refusals.{noEntry, registersSpent, pageFull, badPack}
+use Rattle.cells.specs.Refusals.{tornSheet, oversize, noEntry, registersSpent, pageFull, badPack, typeDiffers}
 
--- what it can be: 0 to page full, but for registers spent, which is never answered (docs/FORMAT.md, "Refusals")
+-- what it can be of the lowering: 0 to page full, but for registers spent, which is never answered (docs/FORMAT.md, "Refusals")
 abbrev pub IsNumber : ℕ → Type 0
 IsNumber n = (n ≤ pageFull) × (n ≡ registersSpent → ⊥)
 
@@ -21,6 +22,10 @@ IsPackNumber n = IsNumber n ⊎ (n ≡ badPack)
 -- and that of a pack's totals
 abbrev pub IsTotalsNumber : ℕ → Type 0
 IsTotalsNumber n = (n ≡ 0) ⊎ (n ≡ badPack)
+
+-- what it can be of a conversion between editions: 0, or one of four refusals (docs/FORMAT.md, "Edition 2")
+abbrev pub IsConversion : ℕ → Type 0
+IsConversion n = List·Memᴰ n (0 ∷ tornSheet ∷ oversize ∷ pageFull ∷ typeDiffers ∷ [])
 
 -- of the plain test: 1 for yes, 0 for no
 abbrev pub yesOf : Option ℕ → ℕ

@@ -1,4 +1,5 @@
 // The C engine links this: functions on byte slices, with numbers for answers, a file for each export.
+pub mod editions;
 pub mod lower;
 pub mod pack_lower;
 pub mod pack_sheet;
