@@ -28,7 +28,7 @@ extern "C" {
 
 /* Answers. `place` then holds: */
 enum gilthoren_answer {
-    GILTHOREN_ACCEPTED = 0,        /* the number of records */
+    GILTHOREN_ACCEPTED = 0,        /* the number of records, or of the cells of a sheet that was written */
     GILTHOREN_BAD_TABLE = 1,       /* the first wrong cell of the tables: off the layout, or too long */
     GILTHOREN_TORN_SHEET = 2,      /* the first wrong, missing or left-over cell of the sheet */
     GILTHOREN_OVERSIZE = 3,        /* the cell that passes a limit */
@@ -37,8 +37,9 @@ enum gilthoren_answer {
     GILTHOREN_ODD_WIDTH = 6,       /* a size other than 1, 2, 4 or 8; as for 4 */
     GILTHOREN_NO_LOWERING = 7,     /* an instruction that Krc does not lower; as for 4 */
     GILTHOREN_REGISTERS_SPENT = 8, /* reserved and never answered: arguments beyond the registers go to the stack */
-    GILTHOREN_PAGE_FULL = 9,       /* the number of records needed: the record bytes are fewer than 64 times as many */
-    GILTHOREN_BAD_PACK = 13        /* the first wrong, missing or left-over cell of the pack */
+    GILTHOREN_PAGE_FULL = 9,       /* the number of records needed, of 64 bytes each, or of cells: the bytes lent for them are fewer */
+    GILTHOREN_BAD_PACK = 13,       /* the first wrong, missing or left-over cell of the pack */
+    GILTHOREN_TYPE_DIFFERS = 17    /* the cell of the first id whose own type is not its entry's, or that has no entry */
 };
 
 /* -- sheets -- */
@@ -59,7 +60,7 @@ enum gilthoren_limit {
 enum gilthoren_cells {
     GILTHOREN_CELLS_HEAD = 6,
     GILTHOREN_CELLS_TYPE = 2,
-    GILTHOREN_CELLS_VARIABLE = 3,
+    GILTHOREN_CELLS_VARIABLE = 3, /* in edition 2 a parameter has one */
     GILTHOREN_CELLS_OPERAND = 4,
     GILTHOREN_CELLS_INSTR = 13 /* without a call's arguments */
 };
@@ -283,6 +284,17 @@ uint64_t gilthoren_pack_lower(const uint8_t *tables, size_t tables_bytes, const 
  * different memory. */
 uint64_t gilthoren_pack_totals(const uint8_t *tables, size_t tables_bytes, const uint8_t *pack, size_t pack_bytes, uint64_t *place,
                                uint64_t *records, uint64_t *refused);
+
+/* Writes a sheet of edition 1 in edition 2 (docs/FORMAT.md), at the start of the output bytes. After 0 these hold the result and their old
+ * content behind it, and `place` holds the number of its cells; after a refusal they hold their old content. The refusals, in this order: 2 or
+ * 3 of the edition that is read, 17, and 9 with the cells needed. A sheet that does not lower is converted as well.
+ *
+ * It is proved: the layout of a result is right in its own edition; converted back, with room for it, it is the first sheet byte for byte; and
+ * the two hold the same function, where a variable of edition 2 has its entry's type. The lowering and the plain test read edition 1. */
+uint64_t gilthoren_to_edition2(const uint8_t *sheet, size_t sheet_bytes, uint8_t *out, size_t out_bytes, uint64_t *place);
+
+/* Writes a sheet of edition 2 in edition 1; all else is as for gilthoren_to_edition2. */
+uint64_t gilthoren_to_edition1(const uint8_t *sheet, size_t sheet_bytes, uint8_t *out, size_t out_bytes, uint64_t *place);
 
 #ifdef __cplusplus
 }

@@ -23,8 +23,9 @@ static void check_place(const struct sheet_text *sheet, uint64_t number, uint64_
 static void check(const struct sheet_text *sheet, uint64_t number) {
     static const uint64_t places[] = {0, 1, 2, 6, 4096, 1u << 20, UINT64_MAX / 8, UINT64_MAX};
     bool is_none = number == GILTHOREN_ACCEPTED || number == GILTHOREN_REGISTERS_SPENT || number > 99;
+    bool is_one = !is_none && (number <= GILTHOREN_PAGE_FULL || number == GILTHOREN_TYPE_DIFFERS);
     if (is_none && refusal_is_known(number)) stop("known, and no call refuses by it", number);
-    if (!is_none && number <= GILTHOREN_PAGE_FULL && !refusal_is_known(number)) stop("not known, and calls refuse by it", number);
+    if (is_one && !refusal_is_known(number)) stop("not known, and calls refuse by it", number);
     if (strlen(refusal_word(number)) == 0 || strlen(refusal_meaning(number)) == 0) stop("no words", number);
     if ((strcmp(refusal_word(number), "unknown refusal") == 0) == refusal_is_known(number)) stop("words of another number", number);
     for (size_t i = 0; i < sizeof places / sizeof *places; i++) {

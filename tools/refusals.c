@@ -22,6 +22,7 @@ static const struct refusal refusals[] = {
     [GILTHOREN_NO_LOWERING] = {"no lowering", "Krc has no lowering for it", PLACE_INSTRUCTION},
     [GILTHOREN_PAGE_FULL] = {"page full", "there is no room for all records", PLACE_RECORDS},
     [GILTHOREN_BAD_PACK] = {"bad pack", "the pack is off the layout, too short, or has cells left over", PLACE_PACK},
+    [GILTHOREN_TYPE_DIFFERS] = {"type differs", "a variable's own type is not its entry's, or it has no entry", PLACE_SHEET},
 };
 
 static const struct refusal unknown = {"unknown refusal", "this program has no words for the number", PLACE_UNKNOWN};

@@ -10,6 +10,7 @@ ghost use Rattle.edition.specs.RoundTrip.{Kept};
 ghost use Rattle.edition.specs.Meaning.{Means};
 ghost use Rattle.engine.specs.Numbers.{IsConversion};
 
+// It writes a sheet of edition `e` in the other one, and answers in numbers.
 fn to_other(e: Edition, sheet: &[u8], out: &mut [u8], place: &mut u64) -> u64
     ensures number { λ r. ⌜ r ≡ numberOf (converted e (now (sheet .entry)) (length (now (out .entry)))) ⌝ }
     ensures known { λ r. ⌜ IsConversion r ⌝ }
