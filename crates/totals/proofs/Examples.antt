@@ -6,7 +6,7 @@ use Rattle.cells.specs.Cells.{bytesOf, word, half, minus, readCell, readWithin}
 use Rattle.cells.specs.Refusals.{badPack}
 use Rattle.ir.specs.Types.{lastOffset, isFloat}
 use Rattle.ir.specs.Function.{tablesOf, typesAt, varsAt, linesAt, functionOf}
-use Rattle.layout.specs.Layout.{endCheck, floatsCheck, tablesCheck, limited, countCheck, returnCheck, typesCheck, varsCheck, instrsCheck, restHead, headCheck, sheetCheck}
+use Rattle.layout.specs.Layout.{endCheck, floatsCheck, tablesCheck, limited, countCheck, returnCheck, typesCheck, paramsIn, instrsIn, restIn, headIn, sheetIn}
 use Rattle.codegen.specs.Instructions.{excess}
 use Rattle.codegen.specs.Frame.{offsetsFrom, haveWidths, varOffsets, storeParams, copyParams, funcPrologue}
 use Rattle.codegen.specs.Generation.{Outcome, accepted, refused, generateBody, endsInRet, withEpilogue, generate, compiled}
@@ -29,5 +29,5 @@ answers : List (Outcome Totals)
 answers = packTotals (fromCells (0 ∷ [])) three ∷ packTotals [] three ∷ packTotals [] [] ∷ []
 
 totals-right : answers ≡ accepted (totals 12 1) ∷ accepted (totals 0 3) ∷ refused badPack 0 ∷ []
-unfolding bytesOf word half readCell readWithin lastOffset isFloat tablesOf typesAt varsAt linesAt functionOf endCheck floatsCheck tablesCheck limited countCheck returnCheck typesCheck varsCheck instrsCheck restHead headCheck sheetCheck excess offsetsFrom haveWidths varOffsets storeParams copyParams funcPrologue generateBody endsInRet withEpilogue generate compiled pairsCheck packCheck partAt sheetsAt taken packTotals fromCells empty three answers
+unfolding bytesOf word half readCell readWithin lastOffset isFloat tablesOf typesAt varsAt linesAt functionOf endCheck floatsCheck tablesCheck limited countCheck returnCheck typesCheck paramsIn instrsIn restIn headIn sheetIn excess offsetsFrom haveWidths varOffsets storeParams copyParams funcPrologue generateBody endsInRet withEpilogue generate compiled pairsCheck packCheck partAt sheetsAt taken packTotals fromCells empty three answers
 totals-right = refl

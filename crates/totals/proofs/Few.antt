@@ -13,6 +13,7 @@ use Rattle.ir.specs.Function.{Tables, argumentsAt, operandsAt, instrAt, lineAt,
 use Rattle.ir.proofs.Sheet.{vars-length, operands-length}
 use Rattle.cells.specs.declared.Cursor.{Cursor}
 use Rattle.layout.specs.declared.Checked.{Checked}
+use Rattle.layout.specs.declared.Edition.{Edition}
 use Rattle.layout.specs.Layout.{tablesCheck, sheetCheck}
 use Rattle.layout.proofs.Laws.{sheet-right, head-params}
 use Rattle.layout.proofs.Walk.{Walk, laid-from, has-few, walk-from, walk-few, walk-next}
@@ -75,7 +76,7 @@ generated-few tables s {is} laid e =
     let m = body-few s c (F .labels) (F .ret) (cellAt s 5) (bodyFrom s) 1 (walk-from (laid-from laid)) (b .1) in
     let t : length is ≡ length (withEpilogue (p .0 ++ b .0)) = ap length (sym (taken (b .2))) in
     few (length is) (length (withEpilogue (p .0 ++ b .0))) (length (p .0)) (length (b .0)) (length (p .0 ++ b .0)) (cellAt s 5) (length (F .params)) t (ended-few (p .0 ++ b .0)) (length-append (p .0) (b .0)) l m
-    (has-few (laid-from laid)) (omega (arith, vars-length s (cellAt s 1) (paramsFrom s), head-params s (sheet-right s laid .head)))
+    (has-few (laid-from laid)) (omega (arith, vars-length s (cellAt s 1) (paramsFrom s), head-params s (sheet-right Edition.First s laid .head)))
   where
     few : (n w p b q k v : ℕ) → n ≡ w → w ≤ q + 3 → q ≡ p + b → p ≤ mostInPrologue v → b ≤ mostRecords 64 * k → k ≤ 4096 → v ≤ 256 → n ≤ mostInSheet
     few n w p b q k v e f g h i j l = omega arith
