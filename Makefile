@@ -25,9 +25,9 @@ INSTALL ?= install
 
 all: $(LIBRARY) $(TOOLS) $(EXAMPLES)
 
-# rt check proves two crates at a time, and rt staticlib one after the other: this is above all that engine needs
+# rt check proves two crates at a time, and rt staticlib one after the other: these are above all that engine needs
 $(ARCHIVE): $(shell find crates crates.txt -type f)
-	rt check totals
+	rt check totals edition
 	rt staticlib engine
 	touch $@
 

@@ -6,8 +6,9 @@ from answers import HEADER
 from scratch import ROOT, numbers, unfolding
 
 # the crates whose definitions an export is by, beside those that all equations have; what they bring in; and what is shown of an answer
-CRATES = ["pack", "totals"]
+CRATES = ["edition", "pack", "totals"]
 USES = """use Rattle.cells.specs.Outcomes.{numberOf, placeOf}
+use Rattle.layout.specs.declared.Edition.{Edition}
 use Rattle.pack.specs.declared.Pair.{Pair}
 use Rattle.pack.specs.Pack.{startOf, sizeOf}
 use Rattle.totals.specs.declared.Totals.{Totals}
@@ -17,6 +18,11 @@ SHOWN = """
 -- number, place, first byte and bytes
 abbrev shownPair : Outcome Pair → List ℕ
 shownPair o = numberOf o ∷ placeOf (λ p. 0) o ∷ startOf o ∷ sizeOf o ∷ []
+
+-- 0, how many cells and the cells, or number and place
+abbrev shownCells : Outcome (List ℕ) → List ℕ
+shownCells (accepted cells) = 0 ∷ length cells ∷ cells
+shownCells (refused n p) = n ∷ p ∷ []
 
 -- number, place, records and refused sheets
 abbrev shownTotals : Outcome Totals → List ℕ
@@ -39,6 +45,9 @@ def sides(call):
         return f"shown (loweredIn {reads[0]} {reads[1]} {call.takes[0]} {call.writes[0][0]})", call.answers + cells(call.writes[0][2])
     if call.name == "pack_totals":
         return f"shownTotals (packTotals {reads[0]} {reads[1]})", call.answers
+    if call.name in ("to_edition2", "to_edition1"):
+        edition = "First" if call.name == "to_edition2" else "Second"
+        return f"shownCells (converted Edition.{edition} {reads[0]} {call.writes[0][0]})", call.answers + cells(call.writes[0][2])
     raise SystemExit(f"evaluate: {call.name} has no definition here")
 
 

@@ -65,6 +65,8 @@ const struct shape shapes[EXPORTS] = {
     [PACK_SHEET] = {.reads = 1, .takes = 1, .writes = 0, .leaves = 3},
     [PACK_LOWER] = {.reads = 2, .takes = 1, .writes = 1, .leaves = 1},
     [PACK_TOTALS] = {.reads = 2, .takes = 0, .writes = 0, .leaves = 3},
+    [TO_EDITION2] = {.reads = 1, .takes = 0, .writes = 1, .leaves = 1},
+    [TO_EDITION1] = {.reads = 1, .takes = 0, .writes = 1, .leaves = 1},
 };
 
 void cases_calls(struct cases *c) {

@@ -10,6 +10,8 @@ EXPORTS = [
     Shape("pack_sheet", 1, 1, 0, 3),
     Shape("pack_lower", 2, 1, 1, 1),
     Shape("pack_totals", 2, 0, 0, 3),
+    Shape("to_edition2", 1, 0, 1, 1),
+    Shape("to_edition1", 1, 0, 1, 1),
 ]
 
 

@@ -49,6 +49,20 @@ unsafe extern "C" {
         records: *mut u64,
         refused: *mut u64,
     ) -> u64;
+    fn gilthoren_to_edition2(
+        sheet: *const u8,
+        sheet_bytes: usize,
+        out: *mut u8,
+        out_bytes: usize,
+        place: *mut u64,
+    ) -> u64;
+    fn gilthoren_to_edition1(
+        sheet: *const u8,
+        sheet_bytes: usize,
+        out: *mut u8,
+        out_bytes: usize,
+        place: *mut u64,
+    ) -> u64;
 }
 
 /// Calls an export: the slices it reads, the numbers it takes, the slices it writes. The answer comes back, then what is left at its pointers.
@@ -75,6 +89,15 @@ pub fn call(export: Export, reads: &[&[u8]], takes: &[u64], writes: &mut [&mut [
             Export::PackTotals => {
                 let ((tables, tables_bytes), (pack, bytes)) = (read(0), read(1));
                 gilthoren_pack_totals(tables, tables_bytes, pack, bytes, at, at.add(1), at.add(2))
+            }
+            Export::ToEdition2 | Export::ToEdition1 => {
+                let ((sheet, bytes), (out, room)) = (read(0), written[0]);
+                let there = if export == Export::ToEdition2 {
+                    gilthoren_to_edition2
+                } else {
+                    gilthoren_to_edition1
+                };
+                there(sheet, bytes, out, room, at)
             }
         }
     };

@@ -812,3 +812,20 @@ fn totals_by_the_request() {
     assert_eq!(with(&[0]).map(|call| call.answers.as_slice()), Some([0, 0, 12, 1].as_slice()));
     assert_eq!(with(&[]).map(|call| call.answers.as_slice()), Some([0, 0, 0, 3].as_slice()));
 }
+
+#[test]
+fn editions_by_the_request() {
+    use calls::edition::{Edition, converted};
+    let mut both_ways = 0;
+    for case in limits::cases().into_iter().chain(crate::cases::random(5, 2_000)) {
+        let second = converted(&case.sheet, Edition::First);
+        let refused = second.as_ref().err().filter(|refusal| refusal.number <= 3).copied();
+        assert_eq!(refused, read_sheet(&case.sheet).err(), "{case}");
+        if let Ok(second) = second {
+            let first = converted(&to_bytes(&second), Edition::Second);
+            assert_eq!(first.map(|cells| to_bytes(&cells)), Ok(case.sheet));
+            both_ways += 1;
+        }
+    }
+    assert!(both_ways > 500);
+}

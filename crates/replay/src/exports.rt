@@ -7,6 +7,8 @@ use crate::list::fill;
 use crate::list::number;
 use crate::list::slice_in;
 use crate::report::difference;
+use engine::editions::gilthoren_to_edition1;
+use engine::editions::gilthoren_to_edition2;
 use engine::pack_lower::gilthoren_pack_lower;
 use engine::pack_sheet::gilthoren_pack_sheet;
 use engine::pack_totals::gilthoren_pack_totals;
@@ -111,6 +113,61 @@ fn held(
         difference(index, 5, counts);
     }
     Place::At(next)
+}
+
+// It calls an export that reads one slice, writes one and leaves one number.
+fn written_by(export: u64, first: &[u8], out: &mut [u8], place: &mut u64) -> u64 {
+    if export == 3 {
+        return gilthoren_to_edition2(first, out, place);
+    }
+    gilthoren_to_edition1(first, out, place)
+}
+
+// The list has a slice to be read and one to be written; then two answers, and what is written.
+fn with_one(
+    list: &[u8],
+    at: usize,
+    index: u64,
+    export: u64,
+    first: &mut [u8],
+    out: &mut [u8],
+    wanted: &mut [u8],
+    counts: &mut [u64; 32],
+) -> Place {
+    let Read::Number(a, second) = slice_in(list, at, first) else {
+        return Place::Bad;
+    };
+    let Read::Number(room, answers) = lend(list, second, out, wanted) else {
+        return Place::Bad;
+    };
+    if first.len() < a as usize {
+        return Place::Bad;
+    }
+    if 1048576 < room {
+        return Place::Bad;
+    }
+    let end = EDGE + room as usize;
+    if out.len() < end {
+        return Place::Bad;
+    }
+    let mut place = 0;
+    let answer = written_by(
+        export,
+        &first[..a as usize],
+        &mut out[EDGE..end],
+        &mut place,
+    );
+    let numbers = [answer, place, 0, 0];
+    held(
+        list,
+        answers,
+        index,
+        2,
+        Said { numbers },
+        out,
+        wanted,
+        counts,
+    )
 }
 
 // The list has a pack, a number and four answers.
@@ -284,6 +341,7 @@ fn call(
     };
     match export {
         0 => pack_sheet(list, next, index, second, counts),
+        3..=4 => with_one(list, next, index, export, second, out, wanted, counts),
         _ => with_two(
             list,
             next,

@@ -293,10 +293,10 @@ fn header(list: &[u8]) -> Read {
 }
 
 // There is room for the list, for a sheet and for records. The `ensures` gives the length, which lending an array as a slice needs.
-fn list_room() -> [u8; 2097152]
-    ensures { λ r. ⌜ 2097152 ≡ length r ⌝ }
+fn list_room() -> [u8; 3145728]
+    ensures { λ r. ⌜ 3145728 ≡ length r ⌝ }
 {
-    [0; 2097152]
+    [0; 3145728]
 }
 
 fn sheet_room() -> [u8; 458752]

@@ -1,6 +1,7 @@
 //! Calls of the exports beside the lowering and the plain test: what is lent, and what must come back, in one form for all of them. The answers are by rules of
 //! their own, a file for each request. vectors/README.md has the form in a file.
 
+pub mod edition;
 pub mod pack;
 pub mod totals;
 
@@ -14,6 +15,8 @@ pub enum Export {
     PackSheet,
     PackLower,
     PackTotals,
+    ToEdition2,
+    ToEdition1,
 }
 
 /// How many slices a call reads, numbers it takes, slices it writes, and numbers it leaves behind its answer.
@@ -25,13 +28,20 @@ pub struct Shape {
 }
 
 impl Export {
-    pub const ALL: [Export; 3] = [Export::PackSheet, Export::PackLower, Export::PackTotals];
+    pub const ALL: [Export; 5] = [
+        Export::PackSheet,
+        Export::PackLower,
+        Export::PackTotals,
+        Export::ToEdition2,
+        Export::ToEdition1,
+    ];
 
     pub fn shape(self) -> Shape {
         let (reads, takes, writes, leaves) = match self {
             Export::PackSheet => (1, 1, 0, 3),
             Export::PackLower => (2, 1, 1, 1),
             Export::PackTotals => (2, 0, 0, 3),
+            Export::ToEdition2 | Export::ToEdition1 => (1, 0, 1, 1),
         };
         Shape { reads, takes, writes, leaves }
     }
@@ -72,7 +82,7 @@ pub struct Family {
     pub draw: fn(&mut Rng, &Pool) -> Call,
 }
 
-pub const FAMILIES: [Family; 2] = [pack::FAMILY, totals::FAMILY];
+pub const FAMILIES: [Family; 3] = [pack::FAMILY, totals::FAMILY, edition::FAMILY];
 
 /// What random calls are made of.
 pub struct Pool {

@@ -3,7 +3,7 @@ use Rattle.replay.proofs.list_room.Statement.{statement}
 use Rattle.replay.proofs.list_room.Tie as tie
 
 returns : tie.Need-returns
-returns c = zeros 2097152
+returns c = zeros 3145728
 
 pub list-room-spec : {M : Type 1} → statement M
 list-room-spec =
