@@ -67,7 +67,6 @@ const struct shape shapes[EXPORTS] = {
     [PACK_TOTALS] = {.reads = 2, .takes = 0, .writes = 0, .leaves = 3},
     [TO_EDITION2] = {.reads = 1, .takes = 0, .writes = 1, .leaves = 1},
     [TO_EDITION1] = {.reads = 1, .takes = 0, .writes = 1, .leaves = 1},
-    [RUN] = {.reads = 3, .takes = 1, .writes = 2, .leaves = 3},
 };
 
 void cases_calls(struct cases *c) {

@@ -13,7 +13,7 @@ struct answer {
 };
 
 /* Another export, by its number in a file, and how much it is lent. */
-enum export { PACK_SHEET, PACK_LOWER, PACK_TOTALS, TO_EDITION2, TO_EDITION1, RUN, EXPORTS };
+enum export { PACK_SHEET, PACK_LOWER, PACK_TOTALS, TO_EDITION2, TO_EDITION1, EXPORTS };
 enum { MOST_READS = 3, MOST_WRITES = 2, MOST_LEFT = 3 };
 struct shape {
     size_t reads, takes, writes, leaves; /* slices, numbers, slices, numbers behind the answer */

@@ -66,9 +66,6 @@ static uint64_t answered(const struct call *c, const struct lent *l, uint64_t *l
     case PACK_TOTALS: return gilthoren_pack_totals(l->reads[0], first, l->reads[1], second, &left[0], &left[1], &left[2]);
     case TO_EDITION2: return gilthoren_to_edition2(l->reads[0], first, l->writes[0], room, &left[0]);
     case TO_EDITION1: return gilthoren_to_edition1(l->reads[0], first, l->writes[0], room, &left[0]);
-    case RUN:
-        return gilthoren_run(l->reads[0], first, l->reads[1], second, l->reads[2], c->reads[2].count, l->writes[0], room, l->writes[1], c->writes[1].length,
-                             c->takes, &left[0], &left[1], &left[2]);
     default: cases_stop("an export that is not there", c->export);
     }
 }

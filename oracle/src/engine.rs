@@ -63,22 +63,6 @@ unsafe extern "C" {
         out_bytes: usize,
         place: *mut u64,
     ) -> u64;
-    fn gilthoren_run(
-        tables: *const u8,
-        tables_bytes: usize,
-        sheet: *const u8,
-        sheet_bytes: usize,
-        values: *const u8,
-        values_bytes: usize,
-        frame: *mut u8,
-        frame_bytes: usize,
-        records: *mut u8,
-        records_bytes: usize,
-        allowance: u64,
-        place: *mut u64,
-        end: *mut u64,
-        value: *mut u64,
-    ) -> u64;
 }
 
 /// Calls an export: the slices it reads, the numbers it takes, the slices it writes. The answer comes back, then what is left at its pointers.
@@ -114,27 +98,6 @@ pub fn call(export: Export, reads: &[&[u8]], takes: &[u64], writes: &mut [&mut [
                     gilthoren_to_edition1
                 };
                 there(sheet, bytes, out, room, at)
-            }
-            Export::Run => {
-                let ((tables, tables_bytes), (sheet, bytes), (values, values_bytes)) =
-                    (read(0), read(1), read(2));
-                let ((frame, frame_bytes), (out, room)) = (written[0], written[1]);
-                gilthoren_run(
-                    tables,
-                    tables_bytes,
-                    sheet,
-                    bytes,
-                    values,
-                    values_bytes,
-                    frame,
-                    frame_bytes,
-                    out,
-                    room,
-                    takes[0],
-                    at,
-                    at.add(1),
-                    at.add(2),
-                )
             }
         }
     };

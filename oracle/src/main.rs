@@ -8,7 +8,6 @@ mod cells;
 mod compact;
 #[cfg(feature = "engine")]
 mod compare;
-mod emulator;
 #[cfg(feature = "engine")]
 mod engine;
 mod list;
@@ -45,7 +44,6 @@ with the engine linked in:
        oracle compare FAMILY SEED COUNT
        oracle engine-processor SEED COUNT
        oracle engine-calls SEED COUNT
-       oracle dry-runs SEED COUNT
        oracle bench";
 
 fn main() -> ExitCode {
@@ -104,7 +102,6 @@ fn engine_command(words: &[&str]) -> Result<(), String> {
         ["engine-calls", seed, count] => {
             processor::calls::test(number(seed)?, number(count)? as usize, engine::list)?
         }
-        ["dry-runs", seed, count] => processor::dry::test(number(seed)?, number(count)? as usize)?,
         ["bench"] => bench::table(),
         _ => return Err(USAGE.to_string()),
     };

@@ -3,7 +3,6 @@
 
 pub mod edition;
 pub mod pack;
-pub mod run;
 pub mod totals;
 
 use crate::cases;
@@ -18,7 +17,6 @@ pub enum Export {
     PackTotals,
     ToEdition2,
     ToEdition1,
-    Run,
 }
 
 /// How many slices a call reads, numbers it takes, slices it writes, and numbers it leaves behind its answer.
@@ -30,13 +28,12 @@ pub struct Shape {
 }
 
 impl Export {
-    pub const ALL: [Export; 6] = [
+    pub const ALL: [Export; 5] = [
         Export::PackSheet,
         Export::PackLower,
         Export::PackTotals,
         Export::ToEdition2,
         Export::ToEdition1,
-        Export::Run,
     ];
 
     pub fn shape(self) -> Shape {
@@ -45,7 +42,6 @@ impl Export {
             Export::PackLower => (2, 1, 1, 1),
             Export::PackTotals => (2, 0, 0, 3),
             Export::ToEdition2 | Export::ToEdition1 => (1, 0, 1, 1),
-            Export::Run => (3, 1, 2, 3),
         };
         Shape { reads, takes, writes, leaves }
     }
@@ -60,14 +56,6 @@ pub struct Call {
     pub writes: Vec<Written>,
     /// The answer, then what is left at its pointers, in their order.
     pub answers: Vec<u64>,
-}
-
-impl Call {
-    /// How many bytes it is lent in all.
-    fn bytes(&self) -> usize {
-        let reads: usize = self.reads.iter().map(Vec::len).sum();
-        reads + self.writes.iter().map(|written| written.before.len()).sum::<usize>()
-    }
 }
 
 /// A slice that is lent to be written.
@@ -94,7 +82,7 @@ pub struct Family {
     pub draw: fn(&mut Rng, &Pool) -> Call,
 }
 
-pub const FAMILIES: [Family; 4] = [pack::FAMILY, totals::FAMILY, edition::FAMILY, run::FAMILY];
+pub const FAMILIES: [Family; 3] = [pack::FAMILY, totals::FAMILY, edition::FAMILY];
 
 /// What random calls are made of.
 pub struct Pool {
@@ -124,7 +112,7 @@ pub fn fixed() -> Vec<Call> {
 fn family_fixed(family: &Family, pool: &Pool) -> Vec<Call> {
     let mut rng = Rng::new(3);
     let draws = std::iter::repeat_with(|| (family.draw)(&mut rng, pool));
-    let small = draws.filter(|call| call.bytes() < 2_000);
+    let small = draws.filter(|call| call.reads.iter().map(Vec::len).sum::<usize>() < 2_000);
     let mut calls = (family.listed)();
     calls.extend(small.take(RANDOM));
     calls

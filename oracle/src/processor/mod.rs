@@ -4,8 +4,6 @@
 mod asm;
 mod batch;
 pub mod calls;
-#[cfg(feature = "engine")]
-pub mod dry;
 pub mod trial;
 
 use crate::rng::Rng;
