@@ -28,15 +28,6 @@ registers_spent = 8
 abbrev pub page_full : ℕ
 page_full = 9
 
-abbrev pub not_plain : ℕ
-not_plain = 10
-
-abbrev pub parameters_differ : ℕ
-parameters_differ = 11
-
-abbrev pub frame_short : ℕ
-frame_short = 12
-
 abbrev pub bad_pack : ℕ
 bad_pack = 13
 

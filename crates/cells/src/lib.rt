@@ -1,4 +1,6 @@
 // A cell is eight bytes of a lent slice, little-endian. It is held as a u64; a negative number is its two's complement pattern.
+#![tactic(auto)]
+
 pub mod refusals;
 
 ghost use Rattle.std.specs.Prelude.{◌≡◌, ◌+◌, ◌*◌, ◌≤◌, ◌<◌, length};
@@ -40,13 +42,13 @@ pub fn cell_at(s: &[u8], k: usize) -> u64
 }
 
 // It says where the next cell is read, by its number in the slice, from 0.
-#[derive(Drop)]
+#[derive(Clone, Copy)]
 pub struct Cursor {
     pub at: usize,
 }
 
 // Reading finds the cell and the cursor behind it, or the number of the cell that is missing, torn or wrong.
-#[derive(Drop)]
+#[derive(Clone, Copy)]
 pub enum Cell {
     Word(u64, Cursor),
     Wrong(usize),

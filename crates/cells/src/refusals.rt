@@ -16,12 +16,6 @@ pub const NO_LOWERING: u64 = 7;
 
 pub const PAGE_FULL: u64 = 9;
 
-pub const NOT_PLAIN: u64 = 10;
-
-pub const PARAMETERS_DIFFER: u64 = 11;
-
-pub const FRAME_SHORT: u64 = 12;
-
 pub const BAD_PACK: u8 = 13;
 
 pub const TYPE_DIFFERS: u64 = 17;

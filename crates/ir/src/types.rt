@@ -8,7 +8,7 @@ use cells::refusals::NO_WIDTH;
 use x86::enums::Size;
 
 // It has a number, or the number of a refusal.
-#[derive(Drop)]
+#[derive(Clone, Copy)]
 pub enum Number {
     Is(u64),
     Refused(u64),

@@ -1,5 +1,7 @@
 // Records are written here: the eight cells of an instruction, as 64 bytes of a lent slice. There is a writer for each form, which writes the records of its form
 // and no other; where a maker calls the writer of the form that it makes, the match vanishes and the value becomes eight stores.
+#![tactic(auto)]
+
 ghost use Rattle.std.specs.Prelude.{◌≡◌, ◌+◌, ◌≤◌, length};
 ghost use Rattle.cells.specs.Cells.{write};
 ghost use Rattle.x86.specs.Records.{cells_record, record_with, record_of, record_bytes};

@@ -5,7 +5,7 @@ ghost use Rattle.text.specs.Input.{split_of};
 use cells::cell_at;
 
 // With `Tables(n)` the n cells behind the first are the tables, and all bytes behind those the sheet.
-#[derive(Drop)]
+#[derive(Clone, Copy)]
 pub enum Parts {
     TooLong,
     NoTables,

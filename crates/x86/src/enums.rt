@@ -7,7 +7,7 @@ use crate::mem_address::MemAddress;
 use crate::register::Register;
 
 // This is Krc's `Option<Size>`.
-#[derive(Drop)]
+#[derive(Clone, Copy)]
 pub enum Size {
     NoSize,
     U8,
@@ -37,7 +37,7 @@ impl Size {
     }
 }
 
-#[derive(Drop)]
+#[derive(Clone, Copy)]
 pub enum Operand {
     NoOperand,
     Reg(Register),
@@ -78,7 +78,7 @@ impl Operand {
     }
 }
 
-#[derive(Drop)]
+#[derive(Clone, Copy)]
 pub enum ConditionCode {
     E,
     NE,
@@ -136,7 +136,7 @@ impl ConditionCode {
 }
 
 // These are the first nineteen of Krc's twenty-five operations, up to the last that the lowering names, so that a code is a position and needs no table.
-#[derive(Drop)]
+#[derive(Clone, Copy)]
 pub enum BinOp {
     Mov,
     Xchg,
@@ -187,7 +187,7 @@ impl BinOp {
     }
 }
 
-#[derive(Drop)]
+#[derive(Clone, Copy)]
 pub enum ShiftOp {
     Shl,
     Shr,
@@ -206,7 +206,7 @@ impl ShiftOp {
     }
 }
 
-#[derive(Drop)]
+#[derive(Clone, Copy)]
 pub enum ComplexBinOp {
     Div,
     Imul,
@@ -225,7 +225,7 @@ impl ComplexBinOp {
     }
 }
 
-#[derive(Drop)]
+#[derive(Clone, Copy)]
 pub enum UnaryOp {
     Neg,
     Not,
@@ -246,7 +246,7 @@ impl UnaryOp {
     }
 }
 
-#[derive(Drop)]
+#[derive(Clone, Copy)]
 pub enum StackOp {
     Push,
     Pop,
@@ -263,7 +263,7 @@ impl StackOp {
     }
 }
 
-#[derive(Drop)]
+#[derive(Clone, Copy)]
 pub enum CtrlOp {
     Jmp,
     Call,
@@ -285,7 +285,7 @@ impl CtrlOp {
     }
 }
 
-#[derive(Drop)]
+#[derive(Clone, Copy)]
 pub enum StringOp {
     Stos,
 }
@@ -300,7 +300,7 @@ impl StringOp {
     }
 }
 
-#[derive(Drop)]
+#[derive(Clone, Copy)]
 pub enum Prefix {
     Rep,
 }
@@ -315,7 +315,7 @@ impl Prefix {
     }
 }
 
-#[derive(Drop)]
+#[derive(Clone, Copy)]
 pub enum ExtendOp {
     Movsxd,
     Movzx,
@@ -332,7 +332,7 @@ impl ExtendOp {
     }
 }
 
-#[derive(Drop)]
+#[derive(Clone, Copy)]
 pub enum ConvOp {
     Cvtsd2ss,
     Cvtsi2sd,
@@ -358,7 +358,7 @@ impl ConvOp {
 }
 
 // Krc's `Prefix` holds a boxed instruction; here it holds the string operation that it repeats.
-#[derive(Drop)]
+#[derive(Clone, Copy)]
 pub enum Instruction {
     Binary {
         op: BinOp,

@@ -1,0 +1,12 @@
+use borrow.Enum.Refused.{opened}
+use mathlib.Core.Path.{refl}
+use Rattle.x86.specs.Records.{record_of}
+use Rattle.records.proofs.Forms.{nothing}
+use Rattle.records.proofs.put_convert.Goals as goal
+
+pub returns-in-Convert : goal.returns-in-Convert
+unfolding record_of
+returns-in-Convert c = simp (c.put_form.ensures, c.in-Convert.is, ← c.code.ensures)
+
+pub returns-in_default : goal.returns-in_default
+returns-in_default c = nothing 5 c.args.i _ c.args.at refl (opened c.in_default.in_default-own.keys2)
