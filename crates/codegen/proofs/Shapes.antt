@@ -187,7 +187,7 @@ call_part ctx dest symbol args =
     raised : (b : Bool) (store : List Instruction) → ends_in_ret store ≡ false
         → ends_in_ret (call ∷ (cond b [] (Instruction.Binary BinOp.Add (Operand.Reg RSP) (Operand.Imm (call_area k)) Size.NoSize ∷ []) ++ store)) ≡ false
     raised true store e = last_store call store refl e
-    raised false store e = last_store _ store refl e
+    raised false store e = last_store (Instruction.Binary BinOp.Add (Operand.Reg RSP) (Operand.Imm (call_area k)) Size.NoSize) store refl e
 
     behind : (pushes loads store : List Instruction) → length pushes ≡ 2 * k → length loads + k ≡ suc (length args) → Part 1 false store
         → Part (most_records (length args)) false (move_stack BinOp.Sub k ++ (pushes ++ (loads ++ call ∷ (move_stack BinOp.Add k ++ store))))

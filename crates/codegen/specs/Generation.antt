@@ -1,5 +1,5 @@
 -- Believed: Krc's codegen/generation.rs: the list that `generate` holds for one function before `add_function`, or the first panic with its place.
-use Rattle.std.specs.Prelude.{ℕ, suc, ◌+◌, ◌*◌, List, [], ◌∷◌, ◌++◌, Bool, true, false, cond, length, drop, ltb}
+use Rattle.std.specs.Prelude.{ℕ, suc, ◌*◌, List, [], ◌∷◌, ◌++◌, Bool, true, false, cond, length, drop, ltb}
 pub use Rattle.cells.specs.Outcomes.{Outcome, accepted, refused, ◌>>=◌}
 use Rattle.cells.specs.Refusals.{page_full}
 use Rattle.ir.specs.declared.«Type».{«Type» as IrType}

@@ -34,7 +34,7 @@ pub fn registers(float: bool) -> u64
 }
 
 // So many general registers, XMM registers and eightbytes of the stack are taken by the arguments or parameters before one.
-#[derive(Drop)]
+#[derive(Clone, Copy)]
 pub struct Taken {
     pub words: u64,
     pub floats: u64,

@@ -13,7 +13,7 @@ use layout::Edition;
 use layout::instrs::{has_dest, has_left};
 
 // A search for a stray id finds the cell of the first, or none.
-#[derive(Drop)]
+#[derive(Clone, Copy)]
 pub enum Stray {
     Nowhere,
     At(usize),

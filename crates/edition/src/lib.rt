@@ -1,4 +1,6 @@
 // A sheet of either edition is converted into the other.
+#![tactic(auto)]
+
 pub mod entries;
 mod write;
 
@@ -18,7 +20,7 @@ use layout::sheet::sheet_check;
 use layout::{Checked, Edition};
 
 // It has the number of cells that were written, or the number of a refusal and its place.
-#[derive(Drop)]
+#[derive(Clone, Copy)]
 pub enum Answer {
     Accepted(u64),
     Refused(u64, u64),

@@ -69,7 +69,7 @@ lies b o j code h k e f g =
 depth_grows : (end : ℕ) (ts : List IrType) → end ≤ depth_from end ts
 unfolding depth_from
 depth_grows end [] = omega arith
-depth_grows end (t ∷ ts) = le_trans (omega (arith, grows end t)) (depth_grows _ ts)
+depth_grows end (t ∷ ts) = le_trans (omega (arith, grows end t)) (depth_grows (behind end t) ts)
 
 offset_from_le : (end : ℕ) (ts : List IrType) (x : ℕ) → offset_from end ts x ≤ depth_from end ts
 unfolding offset_from depth_from

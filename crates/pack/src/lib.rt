@@ -1,4 +1,6 @@
 // A shop's sheets travel in one pack: a sheet count, for each sheet a pair of offset and length in cells, and the sheets one behind the other.
+#![tactic(auto)]
+
 ghost use Rattle.std.specs.Prelude.{◌≡◌, ◌+◌, ◌*◌, ◌≤◌, ◌<◌, length};
 ghost use Rattle.cells.specs.Cells.{cells};
 ghost use Rattle.cells.specs.Outcomes.{number_of, place_of};
@@ -11,14 +13,14 @@ use layout::limits::MOST_SHEETS;
 use layout::parts::{LARGEST, end_check};
 
 // It says where a sheet stands in its pack, and how many cells it has.
-#[derive(Drop)]
+#[derive(Clone, Copy)]
 pub struct Pair {
     pub offset: u64,
     pub length: u64,
 }
 
 // A look-up finds the sheet's pair, or the number of a refusal and its place.
-#[derive(Drop)]
+#[derive(Clone, Copy)]
 pub enum Found {
     Sheet(Pair),
     Refused(u64, u64),
