@@ -1,4 +1,6 @@
 // This is Krc's codegen/arithmetic.rs: `generate_binary`, which chooses among the eighteen binary operations, and `generate_unary`.
+#![tactic(auto)]
+
 ghost use Rattle.std.specs.Prelude.{◌≡◌, cond, ◌+◌, ◌≤◌, length};
 ghost use Rattle.cells.specs.Cells.{cells, write};
 ghost use Rattle.ir.specs.Types.{is_unsigned};
@@ -129,14 +131,14 @@ pub fn generate_binary(
 }
 
 // The look-ups find a source, dest's slot and dest's size.
-#[derive(Drop)]
+#[derive(Clone, Copy)]
 pub struct Changed {
     pub src: Operand,
     pub var: Operand,
     pub size: Size,
 }
 
-#[derive(Drop)]
+#[derive(Clone, Copy)]
 pub enum ChangedResult {
     Is(Changed),
     Refused(u64),

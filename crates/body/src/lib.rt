@@ -1,5 +1,7 @@
 // One loop over the body serves both passes. The first checks each instruction's layout and counts its records. The second writes them one behind the
 // other.
+#![tactic(auto)]
+
 mod instruction;
 
 ghost use Rattle.std.specs.Prelude.{◌≡◌, true, cond, ◌+◌, ◌*◌, ◌≤◌, ltb, eqb, length};
@@ -20,14 +22,14 @@ use layout::{Checked, Edition};
 use utils::CountResult;
 
 // The instructions make so many records, and the last of them is Ret or not; or one of them, numbered from 1, is refused.
-#[derive(Drop)]
+#[derive(Clone, Copy)]
 pub enum Passed {
     Made(u64, bool),
     Refused(u64, u64),
 }
 
 // The layout of the instructions is right, and the cursor is behind them; or a cell is the first wrong one.
-#[derive(Drop)]
+#[derive(Clone, Copy)]
 pub enum Surveyed {
     Laid(Passed, Cursor),
     Wrong(u8, usize),

@@ -1,4 +1,6 @@
 // These are the calls of Krc's codegen/instructions.rs: `generate_call`, with `float_parameter` and `normal_param`.
+#![tactic(auto)]
+
 ghost use Rattle.std.specs.Prelude.{◌≡◌, cond, ◌+◌, ◌*◌, ◌≤◌, length};
 ghost use Rattle.cells.specs.Cells.{cells, write};
 ghost use Rattle.ir.specs.declared.Dest.{Dest};

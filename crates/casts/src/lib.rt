@@ -1,4 +1,6 @@
 // This is `generate_cast` of Krc's codegen/instructions.rs.
+#![tactic(auto)]
+
 ghost use Rattle.std.specs.Prelude.{◌≡◌, ◌+◌, ◌*◌, ◌≤◌, true, false, cond, not, ◌&&◌, length};
 ghost use Rattle.cells.specs.Cells.{cells, write};
 ghost use Rattle.ir.specs.Types.{ok};
@@ -27,7 +29,7 @@ use x86::register::Register;
 
 // What is cast has an operand. It may be a constant, which goes through RAX, or one byte that is no float, which is widened there. Its size in bytes is
 // that before.
-#[derive(Drop)]
+#[derive(Clone, Copy)]
 pub struct Source {
     pub operand: Operand,
     pub constant: bool,
@@ -35,7 +37,7 @@ pub struct Source {
     pub size: u64,
 }
 
-#[derive(Drop)]
+#[derive(Clone, Copy)]
 pub enum SourceResult {
     Is(Source),
     Refused(u64),

@@ -8,7 +8,6 @@ use lib.Dec.{eqb}
 use lib.ListN.{length, length-append}
 use Rattle.cells.specs.Cells.{write}
 use Rattle.ir.specs.declared.VarId.{VarId}
-use Rattle.ir.specs.declared.Operand.{Operand as IrOp}
 use Rattle.ir.specs.Function.{operand_at}
 use Rattle.ir.specs.Types.{ok, refused}
 use Rattle.x86.specs.declared.enums.Size.{Size}

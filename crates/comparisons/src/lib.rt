@@ -1,4 +1,6 @@
 // These are the comparisons of Krc's codegen/arithmetic.rs: the records of a comparison of integers or of floats are counted or written.
+#![tactic(auto)]
+
 ghost use Rattle.std.specs.Prelude.{◌≡◌, [], ◌∷◌, ◌++◌, cond, ◌+◌, ◌*◌, ◌≤◌, length};
 ghost use Rattle.cells.specs.Cells.{cells, write};
 ghost use Rattle.ir.specs.Function.{var_at, operand_at};
@@ -22,7 +24,7 @@ use x86::enums::{BinOp, ConditionCode, Instruction, Operand, Size};
 use x86::register::Register;
 
 // The look-ups find the sources of both sides, dest's slot and dest's size.
-#[derive(Drop)]
+#[derive(Clone, Copy)]
 pub struct Sides {
     pub left: Operand,
     pub right: Operand,
@@ -30,21 +32,21 @@ pub struct Sides {
     pub stored: Size,
 }
 
-#[derive(Drop)]
+#[derive(Clone, Copy)]
 pub enum SidesResult {
     Are(Sides),
     Refused(u64),
 }
 
 // A comparison asks nothing else, or the parity flag, by a second code and the operation that joins it to the first.
-#[derive(Drop)]
+#[derive(Clone, Copy)]
 pub enum More {
     Nothing,
     Parity(ConditionCode, BinOp),
 }
 
 // The operands at two cells go into two registers. These are compared by an operation, and a code reads the flags.
-#[derive(Drop)]
+#[derive(Clone, Copy)]
 pub struct Choice {
     pub a: Register,
     pub left: usize,

@@ -9,7 +9,6 @@ use lib.Seq.{take-suc-set, drop-set-lt}
 use lib.Dec.{eqb, lit≤}
 use Rattle.cells.specs.Cells.{cells}
 use Rattle.ir.specs.declared.«Type».{«Type» as IrType}
-use Rattle.ir.specs.declared.types.Number.{Number}
 use Rattle.ir.specs.Types.{element_width, offset_behind, last_offset}
 use Rattle.ir.specs.Function.{type_at, types_at}
 use Rattle.ir.proofs.Sheet.{types_length}

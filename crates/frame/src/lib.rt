@@ -1,4 +1,6 @@
 // This is the frame of Krc's codegen/generation.rs: `var_offsets` and `func_prologue`.
+#![tactic(auto)]
+
 ghost use Rattle.std.specs.Prelude.{◌≡◌, ◌&&◌, not, ◌+◌, ◌*◌, ◌≤◌, ◌<◌, eqb, length};
 ghost use Rattle.cells.specs.Cells.{cells, write};
 ghost use Rattle.ir.specs.Types.{ok, element_width};

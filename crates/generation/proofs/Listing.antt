@@ -4,7 +4,7 @@ use mathlib.Core.Path.{◌≡◌, refl, sym, ap, ◌∙◌}
 use mathlib.Core.Bool.{Bool, true, false, beq}
 use mathlib.Core.List.{List, [], ◌∷◌, ◌++◌, append-nil, append_assoc}
 use native.Mathlib.Omega.{arith}
-use lib.ListN.{length, length-append}
+use lib.ListN.{length, get_or, length-append}
 use lib.Dec.{ltb}
 use Rattle.cells.specs.Cells.{cell_at, write}
 use Rattle.ir.specs.declared.VarId.{VarId}
@@ -13,11 +13,15 @@ use Rattle.ir.proofs.Sheet.{vars_length}
 use Rattle.ir.specs.Types as types
 use Rattle.ir.specs.Types.{Result, ok, is_float}
 use Rattle.x86.specs.declared.enums.Instruction.{Instruction}
+use Rattle.x86.specs.declared.enums.Operand.{Operand}
+use Rattle.x86.specs.declared.enums.Size.{Size}
+use Rattle.x86.specs.declared.enums.BinOp.{BinOp}
+use Rattle.x86.specs.Registers.{RAX, RSP}
 use Rattle.x86.specs.Records.{list_bytes}
 use Rattle.codegen.specs.Context.{Context}
 use Rattle.codegen.specs.Utils.{var_size, convert_var}
-use Rattle.codegen.specs.Instructions.{func_epilogue, excess}
-use Rattle.codegen.specs.Frame.{registers_of, store_params, copy_params, is_float_param, func_prologue}
+use Rattle.codegen.specs.Instructions.{func_epilogue, excess, move}
+use Rattle.codegen.specs.Frame.{registers_of, store_of, store_params, copy_params, is_float_param, func_prologue}
 use Rattle.codegen.specs.Bounds.{most_in_prologue}
 use Rattle.codegen.specs.Generation.{Outcome, accepted, refused, ◌>>=◌, at, is_ret, ends_in_ret, with_epilogue}
 use Rattle.codegen.proofs.Results.{Yields, yields, any, bind, choose, never}
@@ -46,7 +50,7 @@ stores_open ctx float k (p ∷ ps) =
     choose (beq (is_float p.ty) float)
     (λ a.
     choose (ltb k (length (registers_of float)))
-    (λ b. bind (any (convert_var ctx p)) (λ var c. bind (any (var_size p)) (λ size d. bind (stores_open ctx float (suc k) ps) (λ rest h. yields (λ x e. h _ refl)))))
+    (λ b. bind (any (convert_var ctx p)) (λ var c. bind (any (var_size p)) (λ size d. bind (stores_open ctx float (suc k) ps) (λ rest h. yields (λ x e. h (Instruction.Binary (store_of float) var (Operand.Reg (get_or (registers_of float) k RAX)) size) refl)))))
     (λ b. yields (λ x e. e)))
     (λ a. stores_open ctx float k ps)
 
@@ -59,7 +63,7 @@ copies_open : (ctx : Context) (j : ℕ) (ps : List VarId) → Yields (copy_param
 unfolding copy_params ends_in_ret
 copies_open ctx j [] = yields (λ x e. e)
 copies_open ctx j (p ∷ ps) =
-    bind (any (var_size p)) (λ size a. bind (any (convert_var ctx p)) (λ var b. bind (copies_open ctx (suc j) ps) (λ rest h. yields (λ x e. h _ refl))))
+    bind (any (var_size p)) (λ size a. bind (any (convert_var ctx p)) (λ var b. bind (copies_open ctx (suc j) ps) (λ rest h. yields (λ x e. h (move var (Operand.Reg RAX) size) refl))))
 
 -- it does not end in Ret
 abbrev pub Unended : List Instruction → Type 0
@@ -71,7 +75,8 @@ prologue_open ctx bytes ps =
     bind (stores_open ctx false 0 ps) (λ words h.
     bind (stores_open ctx true 0 ps) (λ floats k.
     bind (copies_open ctx 0 (excess is_float_param 0 0 ps)) (λ copies l.
-    yields (both_open words (floats ++ copies) h (both_open floats copies k l) _ refl))))
+    yields (both_open words (floats ++ copies) h (both_open floats copies k l)
+    (Instruction.Binary BinOp.Sub (Operand.Reg RSP) (Operand.Imm bytes) Size.NoSize) refl))))
 
 pub first_few : (ctx : Context) (bytes : ℕ) (s : List ℕ) (m from : ℕ) {n : ℕ} → m ≤ 256 → ok n ≡ counted (func_prologue ctx bytes (vars_at s m from)) → n ≤ most_in_prologue 256
 first_few ctx bytes s m from {n} few = go (func_prologue ctx bytes (vars_at s m from)) (prologue_few ctx bytes (vars_at s m from))

@@ -13,7 +13,7 @@ use Rattle.cells.specs.Refusals.{torn_sheet, page_full}
 use Rattle.layout.specs.declared.Checked.{Checked}
 use Rattle.layout.specs.declared.Limited.{Limited}
 use Rattle.layout.specs.Limits.{most_variables, most_count}
-use Rattle.layout.specs.Layout.{bind_limited, bind_checked, tables_check, head_check, sheet_in, sheet_check, instrs_check, end_check}
+use Rattle.layout.specs.Layout.{bind_checked, tables_check, head_check, sheet_in, sheet_check, instrs_check, end_check}
 use Rattle.layout.proofs.Laws.{head_total}
 use Rattle.ir.specs.declared.«Type».{«Type» as IrType}
 use Rattle.ir.specs.declared.types.Number.{Number}

@@ -1,13 +1,12 @@
 -- A sheet that is opened, and one that is refused.
-use Prim.Native.Nat.{ℕ, ◌-◌, ◌≤◌}
+use Prim.Native.Nat.{ℕ, ◌≤◌}
 use mathlib.Core.Path.{◌≡◌, refl, sym, ap, ◌∙◌}
-use mathlib.Core.List.{List, ◌++◌}
+use mathlib.Core.List.{List}
 use native.Mathlib.Omega.{arith}
 use lib.ListN.{length, take, drop, length-append, length-drop}
 use lib.Seq.{take_at}
 use Rattle.cells.specs.Cells.{cells, cell_at}
 use Rattle.cells.specs.declared.Cursor.{Cursor}
-use Rattle.cells.specs.Refusals.{torn_sheet}
 use Rattle.ir.specs.declared.types.Number.{Number}
 use Rattle.ir.specs.Function.{types_at, tables_of, function_of}
 use Rattle.ir.proofs.Sheet.{types_length}
@@ -15,7 +14,7 @@ use Rattle.layout.specs.declared.Checked.{Checked}
 use Rattle.layout.specs.declared.Limited.{Limited}
 use Rattle.layout.specs.Limits.{most_variables}
 use Rattle.layout.specs.declared.Edition.{Edition}
-use Rattle.layout.specs.Layout.{bind_limited, bind_checked, tables_check, head_check, instrs_check, end_check, sheet_in, sheet_check}
+use Rattle.layout.specs.Layout.{bind_limited, bind_checked, tables_check, head_check, sheet_in, sheet_check}
 use Rattle.layout.proofs.Laws.{head_right, head_header, head_vars}
 use Rattle.codegen.specs.Frame.{offsets_from}
 use Rattle.codegen.specs.Generation.{refused, checked, generate, compiled}

@@ -1,4 +1,6 @@
 // This is Krc's codegen/generation.rs. It gives the list of a function's records, or the first refusal with its place.
+#![tactic(auto)]
+
 mod pass;
 pub mod plain_test;
 
@@ -16,7 +18,7 @@ use cells::{Cursor, cell_at};
 use ir::types::Number;
 
 // It has the number of records, or the number of a refusal and its place.
-#[derive(Drop)]
+#[derive(Clone, Copy)]
 pub enum Answer {
     Accepted(u64),
     Refused(u64, u64),

@@ -29,14 +29,14 @@ use layout::{Checked, Edition, Limited};
 use utils::CountResult;
 
 // It has the last offset of the variables and the cursor of the first instruction, or a refusal with its place.
-#[derive(Drop)]
+#[derive(Clone, Copy)]
 pub enum Opened {
     Sheet(Number, Cursor),
     Refused(u64, u64),
 }
 
 // It has the bytes of the frame and the number of records, or a refusal with its place.
-#[derive(Drop)]
+#[derive(Clone, Copy)]
 pub enum Counted {
     Frame(u64, u64),
     Refused(u64, u64),

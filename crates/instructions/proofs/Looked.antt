@@ -6,7 +6,7 @@ use native.Mathlib.Omega.{arith}
 use Rattle.ir.specs.declared.«Type».{«Type» as IrType}
 use Rattle.ir.specs.declared.VarId.{VarId}
 use Rattle.ir.specs.declared.Operand.{Operand as IrOp}
-use Rattle.ir.specs.Types.{ok, refused, ◌>>=◌, type_size}
+use Rattle.ir.specs.Types.{ok, refused, type_size}
 use Rattle.ir.specs.Function.{type_at, var_at}
 use Rattle.x86.specs.declared.enums.Size.{Size}
 use Rattle.x86.specs.declared.enums.Operand.{Operand}

@@ -1,4 +1,6 @@
 // This is Krc's codegen/instructions.rs, but for casts and calls: the records of one instruction are counted or written.
+#![tactic(auto)]
+
 ghost use Rattle.std.specs.Prelude.{◌≡◌, ◌+◌, ◌≤◌, length};
 ghost use Rattle.cells.specs.Cells.{cells, cell_at, write};
 ghost use Rattle.ir.specs.Function.{var_at, operand_at};
@@ -24,26 +26,26 @@ use x86::enums::{
 use x86::register::Register;
 
 // The look-ups find a condition's source and a label.
-#[derive(Drop)]
+#[derive(Clone, Copy)]
 pub struct Branch {
     pub src: Operand,
     pub label: u64,
 }
 
-#[derive(Drop)]
+#[derive(Clone, Copy)]
 pub enum BranchResult {
     Is(Branch),
     Refused(u64),
 }
 
 // The look-ups find the bytes of a variable, and its slot.
-#[derive(Drop)]
+#[derive(Clone, Copy)]
 pub struct Zeroed {
     pub bytes: u64,
     pub var: Operand,
 }
 
-#[derive(Drop)]
+#[derive(Clone, Copy)]
 pub enum ZeroedResult {
     Is(Zeroed),
     Refused(u64),

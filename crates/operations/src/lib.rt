@@ -1,4 +1,6 @@
 // These are the binary operations of Krc's codegen/arithmetic.rs that are no comparisons: their records are counted or written.
+#![tactic(auto)]
+
 ghost use Rattle.std.specs.Prelude.{◌≡◌, ◌+◌, ◌*◌, ◌≤◌, length};
 ghost use Rattle.cells.specs.Cells.{cells, write};
 ghost use Rattle.ir.specs.Function.{var_at, operand_at};
@@ -19,7 +21,7 @@ use x86::enums::{BinOp, ComplexBinOp, Instruction, Operand, ShiftOp, Size, Unary
 use x86::register::Register;
 
 // The look-ups find left's source, right, dest's slot and dest's size.
-#[derive(Drop)]
+#[derive(Clone, Copy)]
 pub struct Sides {
     pub left: Operand,
     pub right: Operand,
@@ -27,14 +29,14 @@ pub struct Sides {
     pub size: Size,
 }
 
-#[derive(Drop)]
+#[derive(Clone, Copy)]
 pub enum SidesResult {
     Are(Sides),
     Refused(u64),
 }
 
 // What is made of RAX and RCX between two loads and the store; of a division it is said whether it is unsigned.
-#[derive(Drop)]
+#[derive(Clone, Copy)]
 pub enum Middle {
     Multiply,
     Shift(ShiftOp),

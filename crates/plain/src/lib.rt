@@ -1,4 +1,6 @@
 // This is the plain test where the lowering's answer is known (docs/FORMAT.md, "Plain functions"): the conditions on head and body, and the first fault.
+#![tactic(auto)]
+
 mod body;
 mod head;
 mod instrs;
@@ -21,7 +23,7 @@ use cells::cell_at;
 
 // It is yes, or no with the first number at fault: 0 for variables, parameters, the return type and a refusal that has no instruction, else the
 // instruction's number.
-#[derive(Drop)]
+#[derive(Clone, Copy)]
 pub enum Plainness {
     Yes,
     No(u64),

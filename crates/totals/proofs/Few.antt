@@ -22,7 +22,7 @@ use Rattle.codegen.specs.Bounds.{most_records, most_in_body, most_in_prologue}
 use Rattle.codegen.specs.Context.{Context, context_of}
 use Rattle.codegen.specs.Instructions.{func_epilogue}
 use Rattle.codegen.specs.Frame.{var_offsets, frame, func_prologue}
-use Rattle.codegen.specs.Generation.{Outcome, accepted, refused, at, checked, generate_instruction, generate_body, ends_in_ret, with_epilogue, generate, compiled}
+use Rattle.codegen.specs.Generation.{Outcome, accepted, at, checked, generate_instruction, generate_body, ends_in_ret, with_epilogue, generate, compiled}
 use Rattle.codegen.proofs.Shapes.{instr_part, prologue_few}
 use Rattle.machine.proofs.Accepted.{never, taken, split}
 

@@ -1,4 +1,6 @@
 // The totals of a pack: how many records its sheets make, and how many of them are refused. The newest sheet is the last one, and the walk begins with it.
+#![tactic(auto)]
+
 ghost use Rattle.std.specs.Prelude.{◌≡◌};
 ghost use Rattle.pack.specs.Pack.{Checks, sheets_of};
 ghost use Rattle.totals.specs.Totals.{totals, taken, pack_totals, totalled_says};
@@ -9,14 +11,14 @@ use layout::Checked;
 use pack::{pack_check, sheet_at};
 
 // These are the records of the sheets that lower, and the number of sheets that are refused.
-#[derive(Drop)]
+#[derive(Clone, Copy)]
 pub struct Totals {
     pub records: u64,
     pub refused: u64,
 }
 
 // A pack has its totals, or it is refused, with its first wrong cell.
-#[derive(Drop)]
+#[derive(Clone, Copy)]
 pub enum Totalled {
     Are(Totals),
     Refused(u64, u64),

@@ -21,7 +21,6 @@ use Rattle.codegen.specs.Utils.{size_from, var_size, convert_var, convert_operan
 use Rattle.codegen.proofs.Results.{Yields, never, yields, refuses, bind, any}
 use Rattle.utils.specs.Sources.{source_of, float_size_of, own_size_of, is_string, load_of}
 use Rattle.utils.specs.Makes.{listed, alone}
-use Rattle.utils.proofs.Rest.{float_place}
 
 -- of an operand that is no string's address
 pub not_data : (ctx : Context) (x : IrOp) → OneOf (0 ∷ 1 ∷ 2 ∷ 3 ∷ 4 ∷ 6 ∷ []) (tag_of ir_operand.the_type x) → convert_operand ctx x ≡ source_of ctx x

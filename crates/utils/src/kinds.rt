@@ -9,14 +9,14 @@ use ir::types::Number;
 use ir::{Operand as IrOp, VarId};
 
 // It has the size in bytes of an operand's value, whether it is a float, and whether it is unsigned.
-#[derive(Drop)]
+#[derive(Clone, Copy)]
 pub struct Kind {
     pub size: u64,
     pub float: bool,
     pub unsigned: bool,
 }
 
-#[derive(Drop)]
+#[derive(Clone, Copy)]
 pub enum KindResult {
     Is(Kind),
     Refused(u64),

@@ -3,6 +3,8 @@
 //
 // A maker of records makes its look-ups in the Rust's order. Then, where it is to write, it puts its records one by one into the lent slice, each as an
 // `Instruction`. It answers how many they are, written or not, or the number of a refusal. So the pass that counts and the pass that writes are one.
+#![tactic(auto)]
+
 pub mod kinds;
 pub mod slots;
 
@@ -30,25 +32,25 @@ use x86::mem_address::{Base, MemAddress};
 use x86::register::Register;
 
 // Each has a truth value, a size, an operand or a number of records; or the number of a refusal.
-#[derive(Drop)]
+#[derive(Clone, Copy)]
 pub enum BoolResult {
     Is(bool),
     Refused(u64),
 }
 
-#[derive(Drop)]
+#[derive(Clone, Copy)]
 pub enum SizeResult {
     Is(Size),
     Refused(u64),
 }
 
-#[derive(Drop)]
+#[derive(Clone, Copy)]
 pub enum OperandResult {
     Is(Operand),
     Refused(u64),
 }
 
-#[derive(Drop)]
+#[derive(Clone, Copy)]
 pub enum CountResult {
     Records(u64),
     Refused(u64),

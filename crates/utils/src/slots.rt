@@ -10,13 +10,13 @@ use ir::VarId;
 use ir::read::var_at;
 use x86::enums::{Operand, Size};
 
-#[derive(Drop)]
+#[derive(Clone, Copy)]
 pub struct Slot {
     pub var: Operand,
     pub size: Size,
 }
 
-#[derive(Drop)]
+#[derive(Clone, Copy)]
 pub enum SlotResult {
     Is(Slot),
     Refused(u64),

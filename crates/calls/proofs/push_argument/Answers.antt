@@ -1,0 +1,13 @@
+use Rattle.utils.proofs.Made.{ready_as, makes_as}
+use Rattle.utils.proofs.Rows.{none_made}
+use Rattle.codegen.proofs.Taken.{when_beyond, when_not}
+use Rattle.calls.proofs.push_argument.Goals as goal
+
+pub push_one-requires : goal.push_one-requires
+push_one-requires c = record { j_bound = c.requires.stack_bound; at_bound = c.requires.at_bound; ready = ready_as (when_beyond c.args.float c.args.taken _ c.is_beyond.ensures c.if-is_beyond.true) c.requires.ready }
+
+pub returns-then-is_beyond : goal.returns-then-is_beyond
+returns-then-is_beyond c = makes_as (when_beyond c.args.float c.args.taken _ c.is_beyond.ensures c.if-is_beyond.true) c.push_one.ensures
+
+pub returns : goal.returns
+returns c = none_made (when_not c.args.float c.args.taken _ c.is_beyond.ensures c.if-is_beyond.false)

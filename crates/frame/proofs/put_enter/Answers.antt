@@ -1,0 +1,6 @@
+use native.Mathlib.Omega.{arith}
+use Rattle.x86.proofs.Lists.{puts, first, put, done}
+use Rattle.frame.proofs.put_enter.Goals as goal
+
+pub returns : goal.returns
+returns c = puts (first c.put_instruction.ensures (put c.put_instruction-2.ensures (put c.put_instruction-3.ensures done))) (omega arith)

@@ -1,0 +1,18 @@
+use Rattle.std.proofs.Common.{sym, ◌∙◌}
+use Rattle.ir.specs.Function.{function_of}
+use Rattle.plain.proofs.Tests.{pair_passed, pair_failed}
+use Rattle.machine.specs.Plain.{is_plain_instr, is_plain_cast}
+use Rattle.plain.proofs.instrs.is_plain_conversion.Goals as goal
+
+pub returns-then-is_plain_pair : goal.returns-then-is_plain_pair
+unfolding is_plain_instr
+returns-then-is_plain_pair c =
+    let a = c.args in
+    c.is_plain_cast.ensures
+    ∙ sym (pair_passed (function_of a.sheet.now) a.d a.x c.is_plain_pair.ensures c.if-is_plain_pair.true (is_plain_cast a.d a.x))
+
+pub returns-else-is_plain_pair : goal.returns-else-is_plain_pair
+unfolding is_plain_instr
+returns-else-is_plain_pair c =
+    let a = c.args in
+    sym (pair_failed (function_of a.sheet.now) a.d a.x c.is_plain_pair.ensures c.if-is_plain_pair.false (is_plain_cast a.d a.x))

@@ -1,0 +1,11 @@
+use Rattle.ir.specs.Function.{binary_op}
+use Rattle.machine.specs.Plain.{is_plain_binary}
+use Rattle.plain.proofs.instrs.is_plain_sum.Goals as goal
+
+pub returns-then-is_same : goal.returns-then-is_same
+unfolding is_plain_binary binary_op
+returns-then-is_same c = simp (← c.is_same.ensures, c.if-is_same.true, ← c.small_if_long.ensures)
+
+pub returns-else-is_same : goal.returns-else-is_same
+unfolding is_plain_binary binary_op
+returns-else-is_same c = simp (← c.is_same.ensures, c.if-is_same.false)
