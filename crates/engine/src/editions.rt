@@ -15,7 +15,7 @@ fn to_other(e: Edition, sheet: &[u8], out: &mut [u8], place: &mut u64) -> u64
     ensures known { IsConversion result }
     ensures place { place.new ≡ place_of length (converted e sheet.now (length out.old)) }
     ensures bytes { out.new ≡ output_after (converted e sheet.now (length out.old)) out.old }
-    ensures lent { sheet.now ≡ sheet.now }
+    ensures lent { sheet.exit.now ≡ sheet.entry.now }
     ensures kept { result ≡ 0 → Kept e sheet.now out.new place.new }
     ensures means { result ≡ 0 → Means e sheet.now out.new place.new }
 {
@@ -32,13 +32,12 @@ fn to_other(e: Edition, sheet: &[u8], out: &mut [u8], place: &mut u64) -> u64
 }
 
 // It writes a sheet of edition 1 in edition 2. It gives 0, with the number of cells in `place`, or the number of a refusal, with its place.
-#[unsafe(no_mangle)]
-pub extern "C" fn gilthoren_to_edition2(sheet: &[u8], out: &mut [u8], place: &mut u64) -> u64
+pub fn gilthoren_to_edition2(sheet: &[u8], out: &mut [u8], place: &mut u64) -> u64
     ensures number { result ≡ number_of (converted Edition.First sheet.now (length out.old)) }
     ensures known { IsConversion result }
     ensures place { place.new ≡ place_of length (converted Edition.First sheet.now (length out.old)) }
     ensures bytes { out.new ≡ output_after (converted Edition.First sheet.now (length out.old)) out.old }
-    ensures lent { sheet.now ≡ sheet.now }
+    ensures lent { sheet.exit.now ≡ sheet.entry.now }
     ensures kept { result ≡ 0 → Kept Edition.First sheet.now out.new place.new }
     ensures means { result ≡ 0 → Means Edition.First sheet.now out.new place.new }
 {
@@ -46,13 +45,12 @@ pub extern "C" fn gilthoren_to_edition2(sheet: &[u8], out: &mut [u8], place: &mu
 }
 
 // It writes a sheet of edition 2 in edition 1, and answers as the other conversion does.
-#[unsafe(no_mangle)]
-pub extern "C" fn gilthoren_to_edition1(sheet: &[u8], out: &mut [u8], place: &mut u64) -> u64
+pub fn gilthoren_to_edition1(sheet: &[u8], out: &mut [u8], place: &mut u64) -> u64
     ensures number { result ≡ number_of (converted Edition.Second sheet.now (length out.old)) }
     ensures known { IsConversion result }
     ensures place { place.new ≡ place_of length (converted Edition.Second sheet.now (length out.old)) }
     ensures bytes { out.new ≡ output_after (converted Edition.Second sheet.now (length out.old)) out.old }
-    ensures lent { sheet.now ≡ sheet.now }
+    ensures lent { sheet.exit.now ≡ sheet.entry.now }
     ensures kept { result ≡ 0 → Kept Edition.Second sheet.now out.new place.new }
     ensures means { result ≡ 0 → Means Edition.Second sheet.now out.new place.new }
 {

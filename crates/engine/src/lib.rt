@@ -1,4 +1,6 @@
-// The C engine links this: functions on byte slices, with numbers for answers, a file for each export.
+// What C is given (crates/engine_c has the exports): functions on byte slices, with numbers for answers, a file for each.
+#![tactic(auto)]
+
 pub mod editions;
 pub mod lower;
 pub mod pack_lower;

@@ -10,18 +10,12 @@ ghost use Rattle.engine.specs.Numbers.{IsNumber};
 use generation::{Answer, generate};
 
 // It lowers the sheet. It gives 0, with the number of records in `place`, or the number of a refusal, with its place.
-#[unsafe(no_mangle)]
-pub extern "C" fn gilthoren_lower(
-    tables: &[u8],
-    sheet: &[u8],
-    records: &mut [u8],
-    place: &mut u64,
-) -> u64
+pub fn gilthoren_lower(tables: &[u8], sheet: &[u8], records: &mut [u8], place: &mut u64) -> u64
     ensures number { result ≡ number_of (lowered tables.now sheet.now (length records.old)) }
     ensures known { IsNumber result }
     ensures place { place.new ≡ place_of length (lowered tables.now sheet.now (length records.old)) }
     ensures bytes { records.new ≡ records_after (lowered tables.now sheet.now (length records.old)) records.old }
-    ensures lent { (tables.now ≡ tables.now) × (sheet.now ≡ sheet.now) }
+    ensures lent { (tables.exit.now ≡ tables.entry.now) × (sheet.exit.now ≡ sheet.entry.now) }
     ensures demand2 { result ≡ 0 → Demand2 tables.now sheet.now records.new place.new }
     ensures demand3 { result ≡ 0 → Plain tables.now sheet.now → Demand3 tables.now sheet.now records.new place.new }
 {

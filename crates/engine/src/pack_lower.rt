@@ -12,8 +12,7 @@ use crate::lower::gilthoren_lower;
 use pack::sheet;
 
 // It lowers the sheet of this number, from 0, where it stands in the pack. A refusal of the pack or of the number comes before those of the lowering.
-#[unsafe(no_mangle)]
-pub extern "C" fn gilthoren_pack_lower(
+pub fn gilthoren_pack_lower(
     tables: &[u8],
     pack: &[u8],
     number: u64,
@@ -24,7 +23,7 @@ pub extern "C" fn gilthoren_pack_lower(
     ensures known { IsPackNumber result }
     ensures place { place.new ≡ place_of length (lowered_in tables.now pack.now number (length records.old)) }
     ensures bytes { records.new ≡ records_after (lowered_in tables.now pack.now number (length records.old)) records.old }
-    ensures lent { (tables.now ≡ tables.now) × (pack.now ≡ pack.now) }
+    ensures lent { (tables.exit.now ≡ tables.entry.now) × (pack.exit.now ≡ pack.entry.now) }
     ensures demand2 { result ≡ 0 → Demand2 tables.now (sheet_at pack.now number) records.new place.new }
     ensures demand3 { result ≡ 0 → Plain tables.now (sheet_at pack.now number) → Demand3 tables.now (sheet_at pack.now number) records.new place.new }
 {

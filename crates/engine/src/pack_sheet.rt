@@ -8,8 +8,7 @@ use pack::{Found, find};
 
 // It gives 0, with the first byte of the sheet of this number, from 0, in `from` and its bytes in `length`; or the number of a refusal, with its place, and 0
 // in both.
-#[unsafe(no_mangle)]
-pub extern "C" fn gilthoren_pack_sheet(
+pub fn gilthoren_pack_sheet(
     pack: &[u8],
     number: u64,
     place: &mut u64,
@@ -22,7 +21,7 @@ pub extern "C" fn gilthoren_pack_sheet(
     ensures from { from.new ≡ start_of (find_pair pack.now number) }
     ensures length { «length».new ≡ size_of (find_pair pack.now number) }
     ensures part { result ≡ 0 → look_up pack.now number ≡ accepted (take «length».new (drop from.new pack.now)) }
-    ensures lent { pack.now ≡ pack.now }
+    ensures lent { pack.exit.now ≡ pack.entry.now }
 {
     match find(pack, number) {
         Found::Sheet(pair) => {

@@ -8,8 +8,7 @@ use totals::{Totalled, pack_totals};
 
 // It gives 0, with the number of records of the sheets that lower in `records`, and the number of sheets that are refused in `refused`; or the number of a
 // refusal of the pack, with its place, and 0 in both.
-#[unsafe(no_mangle)]
-pub extern "C" fn gilthoren_pack_totals(
+pub fn gilthoren_pack_totals(
     tables: &[u8],
     pack: &[u8],
     place: &mut u64,
@@ -21,7 +20,7 @@ pub extern "C" fn gilthoren_pack_totals(
     ensures place { place.new ≡ place_of (λ t. 0) (pack_totals tables.now pack.now) }
     ensures records { records.new ≡ records_of (pack_totals tables.now pack.now) }
     ensures refused { refused.new ≡ refused_of (pack_totals tables.now pack.now) }
-    ensures lent { (tables.now ≡ tables.now) × (pack.now ≡ pack.now) }
+    ensures lent { (tables.exit.now ≡ tables.entry.now) × (pack.exit.now ≡ pack.entry.now) }
 {
     match pack_totals(tables, pack) {
         Totalled::Are(t) => {

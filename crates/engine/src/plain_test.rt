@@ -7,11 +7,10 @@ use generation::plain_test::plainness;
 use plain::Plainness;
 
 // The plain test gives 1 for yes, with 0 in `place`; or 0 for no, with the first number at fault.
-#[unsafe(no_mangle)]
-pub extern "C" fn gilthoren_plain(tables: &[u8], sheet: &[u8], place: &mut u64) -> u64
+pub fn gilthoren_plain(tables: &[u8], sheet: &[u8], place: &mut u64) -> u64
     ensures answer { result ≡ yes_of (first_fault tables.now sheet.now) }
     ensures place { place.new ≡ fault_of (first_fault tables.now sheet.now) }
-    ensures lent { (tables.now ≡ tables.now) × (sheet.now ≡ sheet.now) }
+    ensures lent { (tables.exit.now ≡ tables.entry.now) × (sheet.exit.now ≡ sheet.entry.now) }
     ensures plain { result ≡ 1 ↔ Plain tables.now sheet.now }
 {
     match plainness(tables, sheet) {

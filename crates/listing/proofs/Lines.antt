@@ -48,10 +48,14 @@ cells_read : (vs p q : List ℕ) (k : ℕ) → length p ≡ k * 8 → cells_from
 unfolding cells_from cells_bytes
 cells_read [] p q k e = refl
 cells_read (v ∷ vs) p q k e =
-    let l : length (p ++ bytes_of v) ≡ (k + 1) * 8 = simp (length-append, bytes_of_length) (omega arith) in
-    let head = number_read p (cells_bytes vs ++ q) (k * 8) v e in
-    let tail = simp append_assoc at (cells_read vs (p ++ bytes_of v) q (k + 1) l) in
-    rw (append_assoc (bytes_of v) (cells_bytes vs) q, head, tail)
+    let b : List ℕ = bytes_of v in
+    let s : List ℕ = p ++ ((b ++ cells_bytes vs) ++ q) in
+    let first : s ≡ p ++ (b ++ (cells_bytes vs ++ q)) = ap (λ (x : List ℕ). p ++ x) (append_assoc b (cells_bytes vs) q) in
+    let others : s ≡ (p ++ b) ++ (cells_bytes vs ++ q) = first ∙ sym (append_assoc p b (cells_bytes vs ++ q)) in
+    let l : length (p ++ b) ≡ (k + 1) * 8 = simp (length-append, bytes_of_length) (omega arith) in
+    let head : word s (k * 8) ≡ v % 2 ^ 64 = ap (λ (x : List ℕ). word x (k * 8)) first ∙ number_read p (cells_bytes vs ++ q) (k * 8) v e in
+    let tail = ap (λ (x : List ℕ). cells_from x (k + 1) (length vs)) others ∙ cells_read vs (p ++ b) q (k + 1) l in
+    ap (λ (x : ℕ). x ∷ cells_from s (k + 1) (length vs)) head ∙ ap (λ (x : List ℕ). v % 2 ^ 64 ∷ x) tail
 
 -- a line of numbers is that of their remainders
 numbers_mod : (vs : List ℕ) → numbers_line (map (λ (v : ℕ). v % 2 ^ 64) vs) ≡ numbers_line vs
@@ -81,6 +85,9 @@ lines_read (i ∷ is) p q k e =
     let s' : s ≡ (p ++ b) ++ (list_bytes is ++ q) = simp append_assoc in
     let l : length (p ++ b) ≡ suc k * 64 = simp (length-append, record_bytes_length) (omega arith) in
     let line : cells_line s (k * 8) 8 ≡ record_line i = rw (append_assoc b (list_bytes is) q) (line_read i p (list_bytes is ++ q) k e) in
-    let rest : records_text s (suc k) ++ f ≡ records_text s (suc k + length is) = rw s' (lines_read is (p ++ b) q (suc k) l) in
+    let behind : records_text ((p ++ b) ++ (list_bytes is ++ q)) (suc k) ++ f ≡ records_text ((p ++ b) ++ (list_bytes is ++ q)) (suc k + length is) =
+    lines_read is (p ++ b) q (suc k) l in
+    let rest : records_text s (suc k) ++ f ≡ records_text s (suc k + length is) =
+    ap (λ (x : List ℕ). records_text x (suc k) ++ f) s' ∙ behind ∙ ap (λ (x : List ℕ). records_text x (suc k + length is)) (sym s') in
     let n : suc k + length is ≡ k + suc (length is) = omega arith in
     sym (append_assoc (records_text s k) (record_line i) f) ∙ ap (λ (x : List ℕ). (records_text s k ++ x) ++ f) (sym line) ∙ rest ∙ ap (records_text s) n

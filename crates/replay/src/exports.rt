@@ -5,9 +5,10 @@ use engine::editions::{gilthoren_to_edition1, gilthoren_to_edition2};
 use engine::pack_lower::gilthoren_pack_lower;
 use engine::pack_sheet::gilthoren_pack_sheet;
 use engine::pack_totals::gilthoren_pack_totals;
+use std::io;
 
 // It has an export's answer, and what it leaves at its pointers, in order.
-#[derive(Drop)]
+#[derive(Clone, Copy)]
 struct Said {
     numbers: [u64; 4],
 }
@@ -88,6 +89,7 @@ fn is_left(list: &[u8], at: usize, out: &[u8], wanted: &mut [u8]) -> Compared {
 
 // An answer of n numbers is held to the list's, and then the bytes that were lent to be written.
 fn held(
+    rt: &impl Print,
     list: &[u8],
     at: usize,
     index: u64,
@@ -96,17 +98,17 @@ fn held(
     out: &[u8],
     wanted: &mut [u8],
     counts: &mut [u64; 32],
-) -> Place {
+) -> io::Result<Place> {
     let Compared::At(after, same) = same_numbers(list, at, n, said) else {
-        return Place::Bad;
+        return Ok(Place::Bad);
     };
     let Compared::At(next, left) = is_left(list, after, out, wanted) else {
-        return Place::Bad;
+        return Ok(Place::Bad);
     };
     if !(same && left) {
-        difference(index, 5, counts);
+        difference(rt, index, 5, counts)?;
     }
-    Place::At(next)
+    Ok(Place::At(next))
 }
 
 // It calls an export that reads one slice, writes one and leaves one number.
@@ -119,6 +121,7 @@ fn written_by(export: u64, first: &[u8], out: &mut [u8], place: &mut u64) -> u64
 
 // The list has a slice to be read and one to be written; then two answers, and what is written.
 fn with_one(
+    rt: &impl Print,
     list: &[u8],
     at: usize,
     index: u64,
@@ -127,22 +130,22 @@ fn with_one(
     out: &mut [u8],
     wanted: &mut [u8],
     counts: &mut [u64; 32],
-) -> Place {
+) -> io::Result<Place> {
     let Read::Number(a, second) = slice_in(list, at, first) else {
-        return Place::Bad;
+        return Ok(Place::Bad);
     };
     let Read::Number(room, answers) = lend(list, second, out, wanted) else {
-        return Place::Bad;
+        return Ok(Place::Bad);
     };
     if first.len() < a as usize {
-        return Place::Bad;
+        return Ok(Place::Bad);
     }
     if 1048576 < room {
-        return Place::Bad;
+        return Ok(Place::Bad);
     }
     let end = EDGE + room as usize;
     if out.len() < end {
-        return Place::Bad;
+        return Ok(Place::Bad);
     }
     let mut place = 0;
     let answer = written_by(
@@ -153,6 +156,7 @@ fn with_one(
     );
     let numbers = [answer, place, 0, 0];
     held(
+        rt,
         list,
         answers,
         index,
@@ -166,20 +170,21 @@ fn with_one(
 
 // The list has a pack, a number and four answers.
 fn pack_sheet(
+    rt: &impl Print,
     list: &[u8],
     at: usize,
     index: u64,
     pack: &mut [u8],
     counts: &mut [u64; 32],
-) -> Place {
+) -> io::Result<Place> {
     let Read::Number(p, second) = slice_in(list, at, pack) else {
-        return Place::Bad;
+        return Ok(Place::Bad);
     };
     let Read::Number(sheet, answers) = number(list, second) else {
-        return Place::Bad;
+        return Ok(Place::Bad);
     };
     if pack.len() < p as usize {
-        return Place::Bad;
+        return Ok(Place::Bad);
     }
     let mut place = 0;
     let mut from = 0;
@@ -193,16 +198,17 @@ fn pack_sheet(
     );
     let numbers = [answer, place, from, length];
     let Compared::At(next, same) = same_numbers(list, answers, 4, Said { numbers }) else {
-        return Place::Bad;
+        return Ok(Place::Bad);
     };
     if !same {
-        difference(index, 5, counts);
+        difference(rt, index, 5, counts)?;
     }
-    Place::At(next)
+    Ok(Place::At(next))
 }
 
 // The list has what is lent beside tables and pack: a number and a slice to be written; then two answers, and what is written.
 fn pack_lower(
+    rt: &impl Print,
     list: &[u8],
     at: usize,
     index: u64,
@@ -211,24 +217,25 @@ fn pack_lower(
     out: &mut [u8],
     wanted: &mut [u8],
     counts: &mut [u64; 32],
-) -> Place {
+) -> io::Result<Place> {
     let Read::Number(sheet, second) = number(list, at) else {
-        return Place::Bad;
+        return Ok(Place::Bad);
     };
     let Read::Number(room, answers) = lend(list, second, out, wanted) else {
-        return Place::Bad;
+        return Ok(Place::Bad);
     };
     if 1048576 < room {
-        return Place::Bad;
+        return Ok(Place::Bad);
     }
     let end = EDGE + room as usize;
     if out.len() < end {
-        return Place::Bad;
+        return Ok(Place::Bad);
     }
     let mut place = 0;
     let answer = gilthoren_pack_lower(tables, pack, sheet, &mut out[EDGE..end], &mut place);
     let numbers = [answer, place, 0, 0];
     held(
+        rt,
         list,
         answers,
         index,
@@ -242,29 +249,31 @@ fn pack_lower(
 
 // The list has four answers behind tables and pack.
 fn pack_totals(
+    rt: &impl Print,
     list: &[u8],
     at: usize,
     index: u64,
     tables: &[u8],
     pack: &[u8],
     counts: &mut [u64; 32],
-) -> Place {
+) -> io::Result<Place> {
     let mut place = 0;
     let mut records = 0;
     let mut refused = 0;
     let answer = gilthoren_pack_totals(tables, pack, &mut place, &mut records, &mut refused);
     let numbers = [answer, place, records, refused];
     let Compared::At(next, same) = same_numbers(list, at, 4, Said { numbers }) else {
-        return Place::Bad;
+        return Ok(Place::Bad);
     };
     if !same {
-        difference(index, 5, counts);
+        difference(rt, index, 5, counts)?;
     }
-    Place::At(next)
+    Ok(Place::At(next))
 }
 
 // It calls an export that is lent two slices to read.
 fn lent_two(
+    rt: &impl Print,
     list: &[u8],
     at: usize,
     index: u64,
@@ -274,16 +283,17 @@ fn lent_two(
     out: &mut [u8],
     wanted: &mut [u8],
     counts: &mut [u64; 32],
-) -> Place {
+) -> io::Result<Place> {
     match export {
-        1 => pack_lower(list, at, index, first, second, out, wanted, counts),
-        2 => pack_totals(list, at, index, first, second, counts),
-        _ => Place::Bad,
+        1 => pack_lower(rt, list, at, index, first, second, out, wanted, counts),
+        2 => pack_totals(rt, list, at, index, first, second, counts),
+        _ => Ok(Place::Bad),
     }
 }
 
 // It reads two slices, and calls an export that is lent both.
 fn with_two(
+    rt: &impl Print,
     list: &[u8],
     at: usize,
     index: u64,
@@ -293,20 +303,21 @@ fn with_two(
     out: &mut [u8],
     wanted: &mut [u8],
     counts: &mut [u64; 32],
-) -> Place {
+) -> io::Result<Place> {
     let Read::Number(a, next) = slice_in(list, at, first) else {
-        return Place::Bad;
+        return Ok(Place::Bad);
     };
     let Read::Number(b, rest) = slice_in(list, next, second) else {
-        return Place::Bad;
+        return Ok(Place::Bad);
     };
     if first.len() < a as usize {
-        return Place::Bad;
+        return Ok(Place::Bad);
     }
     if second.len() < b as usize {
-        return Place::Bad;
+        return Ok(Place::Bad);
     }
     lent_two(
+        rt,
         list,
         rest,
         index,
@@ -321,6 +332,7 @@ fn with_two(
 
 // It reads and makes one call, of the export that the list numbers.
 fn call(
+    rt: &impl Print,
     list: &[u8],
     at: usize,
     index: u64,
@@ -329,21 +341,22 @@ fn call(
     out: &mut [u8],
     wanted: &mut [u8],
     counts: &mut [u64; 32],
-) -> Place {
+) -> io::Result<Place> {
     let Read::Number(export, next) = number(list, at) else {
-        return Place::Bad;
+        return Ok(Place::Bad);
     };
     match export {
-        0 => pack_sheet(list, next, index, second, counts),
-        3..=4 => with_one(list, next, index, export, second, out, wanted, counts),
+        0 => pack_sheet(rt, list, next, index, second, counts),
+        3..=4 => with_one(rt, list, next, index, export, second, out, wanted, counts),
         _ => with_two(
-            list, next, index, export, first, second, out, wanted, counts,
+            rt, list, next, index, export, first, second, out, wanted, counts,
         ),
     }
 }
 
 // It makes the calls from `at` on, of which there are n.
 pub(crate) fn call_all(
+    rt: &impl Print,
     list: &[u8],
     at: usize,
     n: u64,
@@ -352,19 +365,19 @@ pub(crate) fn call_all(
     out: &mut [u8],
     wanted: &mut [u8],
     counts: &mut [u64; 32],
-) -> Place {
+) -> io::Result<Place> {
     let mut k = at;
     let mut index = 0;
     while index < n {
-        match call(list, k, index, first, second, out, wanted, counts) {
+        match call(rt, list, k, index, first, second, out, wanted, counts)? {
             Place::At(next) => {
                 k = next;
             }
             Place::Bad => {
-                return Place::Bad;
+                return Ok(Place::Bad);
             }
         }
         index += 1;
     }
-    Place::At(k)
+    Ok(Place::At(k))
 }

@@ -5,21 +5,21 @@ use cells::put_word;
 pub(crate) const EDGE: usize = 64;
 
 // It has a number of the list, or of bytes that were read into a slice, and the place behind it in the list; or the list is malformed.
-#[derive(Drop)]
+#[derive(Clone, Copy)]
 pub(crate) enum Read {
     Number(u64, usize),
     Bad,
 }
 
 // It has the place behind what was read; or the list is malformed.
-#[derive(Drop)]
+#[derive(Clone, Copy)]
 pub(crate) enum Place {
     At(usize),
     Bad,
 }
 
 // It has the place behind records or faults, and whether they are as they should be; or the list is malformed.
-#[derive(Drop)]
+#[derive(Clone, Copy)]
 pub(crate) enum Compared {
     At(usize, bool),
     Bad,

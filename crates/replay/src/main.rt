@@ -1,11 +1,13 @@
 // The fixed list of the oracle's answers (vectors/README.md has its form) is standard input. Each of its cases goes through the lowering and the plain
 // test as C calls them, and each of its calls through its export. A case whose answer, records, lent bytes or plain test are not as the list has them gives a
 // line `difference`, and so does a call whose answer or lent bytes are not. The last lines have the counts.
+#![tactic(auto)]
+
 mod exports;
 mod list;
 mod report;
 
-ghost use Rattle.std.specs.Prelude.{◌≡◌, length};
+ghost use Rattle.std.specs.Prelude.{◌≡◌, length, IfOk, vec_len};
 
 use crate::exports::call_all;
 use crate::list::{Compared, EDGE, Place, Read, cell, fill, is_filled, number, slice_in};
@@ -13,6 +15,8 @@ use crate::report::{DIFFERENCES, PLAIN, RECORDS, count, difference, print_pair};
 use cells::{Cell, Cursor, cell_at};
 use engine::lower::gilthoren_lower;
 use engine::plain_test::gilthoren_plain;
+use std::io;
+use streams::read_full;
 
 // This is `KRCVEC02` as a cell.
 const MAGIC: u64 = 3616464465857565259;
@@ -41,37 +45,39 @@ fn same_cells(list: &[u8], at: usize, n: usize, out: &[u8]) -> Compared {
 
 // It compares the n records of an accepted case, and the bytes before and behind them.
 fn records_in(
+    rt: &impl Print,
     list: &[u8],
     at: usize,
     index: u64,
     n: usize,
     records: &[u8],
     counts: &mut [u64; 32],
-) -> Place {
+) -> io::Result<Place> {
     if records.len() < EDGE {
-        return Place::Bad;
+        return Ok(Place::Bad);
     }
     if 1048576 < n {
-        return Place::Bad;
+        return Ok(Place::Bad);
     }
     let Compared::At(next, same) = same_cells(list, at, 8 * n, &records[EDGE..]) else {
-        return Place::Bad;
+        return Ok(Place::Bad);
     };
     if !same {
-        difference(index, 2, counts);
+        difference(rt, index, 2, counts)?;
     }
     let before = is_filled(records, 0, EDGE);
     let behind = is_filled(records, EDGE + 64 * n, records.len());
     if !(before && behind) {
-        difference(index, 3, counts);
+        difference(rt, index, 3, counts)?;
     }
     count(counts, RECORDS, n as u64);
-    Place::At(next)
+    Ok(Place::At(next))
 }
 
 // A case is lowered into the record bytes but for EDGE at their start and at their end, and is held to the list's refusal and place, or 0 and the count of
 // records.
 fn held(
+    rt: &impl Print,
     list: &[u8],
     at: usize,
     index: u64,
@@ -81,9 +87,9 @@ fn held(
     sheet: &[u8],
     records: &mut [u8],
     counts: &mut [u64; 32],
-) -> Place {
+) -> io::Result<Place> {
     if records.len() < 2 * EDGE {
-        return Place::Bad;
+        return Ok(Place::Bad);
     }
     fill(records);
     let end = records.len() - EDGE;
@@ -93,17 +99,18 @@ fn held(
         count(counts, number as usize, 1);
     }
     if !(number == refusal && found == place) {
-        difference(index, 1, counts);
+        difference(rt, index, 1, counts)?;
     }
     if refusal == 0 {
-        records_in(list, at, index, place as usize, records, counts)
+        records_in(rt, list, at, index, place as usize, records, counts)
     } else {
-        records_in(list, at, index, 0, records, counts)
+        records_in(rt, list, at, index, 0, records, counts)
     }
 }
 
 // A case is lowered with as much room as the list says.
 fn lowering(
+    rt: &impl Print,
     list: &[u8],
     at: usize,
     index: u64,
@@ -111,26 +118,26 @@ fn lowering(
     sheet: &[u8],
     records: &mut [u8],
     counts: &mut [u64; 32],
-) -> Place {
+) -> io::Result<Place> {
     let Read::Number(room, second) = number(list, at) else {
-        return Place::Bad;
+        return Ok(Place::Bad);
     };
     let Read::Number(refusal, third) = number(list, second) else {
-        return Place::Bad;
+        return Ok(Place::Bad);
     };
     let Read::Number(place, rest) = number(list, third) else {
-        return Place::Bad;
+        return Ok(Place::Bad);
     };
     if 1048576 < room {
-        return Place::Bad;
+        return Ok(Place::Bad);
     }
     let end = 2 * EDGE + room as usize;
     if records.len() < end {
-        return Place::Bad;
+        return Ok(Place::Bad);
     }
     let lent = &mut records[..end];
     held(
-        list, rest, index, refusal, place, tables, sheet, lent, counts,
+        rt, list, rest, index, refusal, place, tables, sheet, lent, counts,
     )
 }
 
@@ -154,36 +161,38 @@ fn is_first(list: &[u8], at: usize, n: u64, k: u64) -> Compared {
 
 // The plain test of a case is held to the first of the list's faults.
 fn plainness(
+    rt: &impl Print,
     list: &[u8],
     at: usize,
     index: u64,
     tables: &[u8],
     sheet: &[u8],
     counts: &mut [u64; 32],
-) -> Place {
+) -> io::Result<Place> {
     let Read::Number(n, first) = number(list, at) else {
-        return Place::Bad;
+        return Ok(Place::Bad);
     };
     let mut fault = 0;
     let yes = gilthoren_plain(tables, sheet, &mut fault);
     let Compared::At(next, found) = is_first(list, first, n, fault) else {
-        return Place::Bad;
+        return Ok(Place::Bad);
     };
     count(counts, PLAIN, yes);
     if yes == 1 {
         if 0 < n {
-            difference(index, 4, counts);
+            difference(rt, index, 4, counts)?;
         }
-        return Place::At(next);
+        return Ok(Place::At(next));
     }
     if !found {
-        difference(index, 4, counts);
+        difference(rt, index, 4, counts)?;
     }
-    Place::At(next)
+    Ok(Place::At(next))
 }
 
 // A case's tables and sheet go through both.
 fn answer(
+    rt: &impl Print,
     list: &[u8],
     at: usize,
     index: u64,
@@ -191,15 +200,16 @@ fn answer(
     sheet: &[u8],
     records: &mut [u8],
     counts: &mut [u64; 32],
-) -> Place {
-    match lowering(list, at, index, tables, sheet, records, counts) {
-        Place::At(faults) => plainness(list, faults, index, tables, sheet, counts),
-        Place::Bad => Place::Bad,
+) -> io::Result<Place> {
+    match lowering(rt, list, at, index, tables, sheet, records, counts)? {
+        Place::At(faults) => plainness(rt, list, faults, index, tables, sheet, counts),
+        Place::Bad => Ok(Place::Bad),
     }
 }
 
 // It reads and runs one case.
 fn case(
+    rt: &impl Print,
     list: &[u8],
     at: usize,
     index: u64,
@@ -207,20 +217,21 @@ fn case(
     sheet: &mut [u8],
     records: &mut [u8],
     counts: &mut [u64; 32],
-) -> Place {
+) -> io::Result<Place> {
     let Read::Number(t, second) = slice_in(list, at, tables) else {
-        return Place::Bad;
+        return Ok(Place::Bad);
     };
     let Read::Number(s, rest) = slice_in(list, second, sheet) else {
-        return Place::Bad;
+        return Ok(Place::Bad);
     };
     if tables.len() < t as usize {
-        return Place::Bad;
+        return Ok(Place::Bad);
     }
     if sheet.len() < s as usize {
-        return Place::Bad;
+        return Ok(Place::Bad);
     }
     answer(
+        rt,
         list,
         rest,
         index,
@@ -233,6 +244,7 @@ fn case(
 
 // It runs the cases from `at` on, of which there are n.
 fn cases(
+    rt: &impl Print,
     list: &[u8],
     at: usize,
     n: u64,
@@ -240,21 +252,21 @@ fn cases(
     sheet: &mut [u8],
     records: &mut [u8],
     counts: &mut [u64; 32],
-) -> Place {
+) -> io::Result<Place> {
     let mut k = at;
     let mut index = 0;
     while index < n {
-        match case(list, k, index, tables, sheet, records, counts) {
+        match case(rt, list, k, index, tables, sheet, records, counts)? {
             Place::At(next) => {
                 k = next;
             }
             Place::Bad => {
-                return Place::Bad;
+                return Ok(Place::Bad);
             }
         }
         index += 1;
     }
-    Place::At(k)
+    Ok(Place::At(k))
 }
 
 // It gives the count of the list's cases, behind its first eight bytes, and the place behind it.
@@ -289,23 +301,44 @@ fn records_room() -> [u8; 66240]
 }
 
 // It runs all the cases, and gives the place behind them.
-fn replay_cases(list: &[u8], at: usize, n: u64, counts: &mut [u64; 32]) -> Place {
+fn replay_cases(
+    rt: &impl Print,
+    list: &[u8],
+    at: usize,
+    n: u64,
+    counts: &mut [u64; 32],
+) -> io::Result<Place> {
     let mut tables = [0u8; 4096];
     let mut sheet = sheet_room();
     let mut records = records_room();
-    cases(list, at, n, &mut tables, &mut sheet, &mut records, counts)
+    cases(
+        rt,
+        list,
+        at,
+        n,
+        &mut tables,
+        &mut sheet,
+        &mut records,
+        counts,
+    )
 }
 
 // It runs all the calls, with nothing behind them, and gives their number.
-fn replay_calls(list: &[u8], at: usize, counts: &mut [u64; 32]) -> Read {
+fn replay_calls(
+    rt: &impl Print,
+    list: &[u8],
+    at: usize,
+    counts: &mut [u64; 32],
+) -> io::Result<Read> {
     let mut first = [0u8; 4096];
     let mut second = sheet_room();
     let mut out = records_room();
     let mut wanted = records_room();
     let Read::Number(n, from) = number(list, at) else {
-        return Read::Bad;
+        return Ok(Read::Bad);
     };
     let Place::At(end) = call_all(
+        rt,
         list,
         from,
         n,
@@ -314,69 +347,62 @@ fn replay_calls(list: &[u8], at: usize, counts: &mut [u64; 32]) -> Read {
         &mut out,
         &mut wanted,
         counts,
-    ) else {
-        return Read::Bad;
+    )?
+    else {
+        return Ok(Read::Bad);
     };
     if end == list.len() {
-        Read::Number(n, end)
+        Ok(Read::Number(n, end))
     } else {
-        Read::Bad
+        Ok(Read::Bad)
     }
 }
 
-fn replay(list: &[u8]) {
+fn replay(rt: &impl Print, list: &[u8]) -> io::Result<()> {
     let mut counts = [0u64; 32];
     let Read::Number(n, at) = header(list) else {
-        malformed();
-        return;
+        return malformed(rt);
     };
-    let Place::At(behind) = replay_cases(list, at, n, &mut counts) else {
-        malformed();
-        return;
+    let Place::At(behind) = replay_cases(rt, list, at, n, &mut counts)? else {
+        return malformed(rt);
     };
-    let Read::Number(m, _) = replay_calls(list, behind, &mut counts) else {
-        malformed();
-        return;
+    let Read::Number(m, _) = replay_calls(rt, list, behind, &mut counts)? else {
+        return malformed(rt);
     };
-    print_counts(n, m, &counts);
+    print_counts(rt, n, m, &counts)
 }
 
 // It writes each refusal that has come, and how often.
-fn print_refusals(counts: &[u64; 32]) {
+fn print_refusals(rt: &impl Print, counts: &[u64; 32]) -> io::Result<()> {
     let mut k = 1;
     while k < RECORDS {
         let times = counts[k];
         if 0 < times {
-            io::write_all(1, b"refused ");
-            print_pair(k as u64, times);
+            print!(rt; "refused ")?;
+            print_pair(rt, k as u64, times)?;
         }
         k += 1;
     }
+    Ok(())
 }
 
-fn print_counts(n: u64, calls: u64, counts: &[u64; 32]) {
-    io::print_decimal(1, n);
-    io::write_all(1, b" cases, accepted ");
-    io::print_decimal(1, counts[0]);
-    io::write_all(1, b", records ");
-    io::print_decimal(1, counts[RECORDS]);
-    io::write_all(1, b"\n");
-    print_refusals(counts);
-    io::write_all(1, b"plain ");
-    io::print_decimal(1, counts[PLAIN]);
-    io::write_all(1, b"\n");
-    io::print_decimal(1, calls);
-    io::write_all(1, b" calls, differences ");
-    io::print_decimal(1, counts[DIFFERENCES]);
-    io::write_all(1, b"\n");
+fn print_counts(rt: &impl Print, n: u64, calls: u64, counts: &[u64; 32]) -> io::Result<()> {
+    let accepted = counts[0];
+    let records = counts[RECORDS];
+    println!(rt; "{n} cases, accepted {accepted}, records {records}")?;
+    print_refusals(rt, counts)?;
+    let plain = counts[PLAIN];
+    println!(rt; "plain {plain}")?;
+    let differences = counts[DIFFERENCES];
+    println!(rt; "{calls} calls, differences {differences}")
 }
 
-fn malformed() {
-    io::write_all(1, b"malformed list\n");
+fn malformed(rt: &impl Print) -> io::Result<()> {
+    println!(rt; "malformed list")
 }
 
-fn main() {
+fn main(rt: HostRuntime) -> io::Result<()> {
     let mut list = list_room();
-    let n = io::read_full(0, &mut list);
-    replay(&list[..n]);
+    let n = read_full(&mut rt.reader(), &mut list)?;
+    replay(&rt, &list[..n])
 }
