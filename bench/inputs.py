@@ -7,6 +7,6 @@ sys.path.insert(0, str(ROOT / "tests"))
 import vectors  # noqa: E402
 
 folder = pathlib.Path(sys.argv[1])
-for case in vectors.load(ROOT / "vectors" / "answers.bin"):
+for case in vectors.load(ROOT / "crates/replay/stdin"):
     if len(case.tables) % 8 == 0:
         (folder / str(case.index)).write_bytes((len(case.tables) // 8).to_bytes(8, "little") + case.tables + case.sheet)

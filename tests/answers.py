@@ -4,27 +4,25 @@ import collections
 import vectors
 from scratch import ROOT, numbers, unfolding
 
-HEADER = """use Prim.Native.Nat.{ℕ, suc}
-use mathlib.Core.Path.{_≡_, refl}
-use mathlib.Core.Bool.{Bool, true, false}
-use mathlib.Core.List.{List, [], _∷_, _++_, map}
-use mathlib.Core.Option.{Option, none, some}
-use lib.ListN.{length}
-use Rattle·x86.specs.declared.enums.Instruction.{Instruction}
-use Rattle·x86.specs.Records.{Record}
-use Rattle·codegen.specs.Generation.{Outcome, accepted, refused}
+HEADER = """use Rattle.std.specs.Prelude.{ℕ, suc, ◌≡◌, Bool, true, false, List, [], ◌∷◌, ◌++◌, length}
+use Rattle.std.proofs.Common.{refl}
+use Rattle.std.proofs.Math.Option.{Option, none, some}
+use mathlib.Core.List.{map}
+use Rattle.x86.specs.declared.enums.Instruction.{Instruction}
+use Rattle.x86.specs.Records.{Record}
+use Rattle.codegen.specs.Generation.{Outcome, accepted, refused}
 %s
 
-abbrev cellsOf : Record → List ℕ
-cellsOf r = r .form ∷ r .operation ∷ r .dstTag ∷ r .dst ∷ r .srcTag ∷ r .src ∷ r .size ∷ r .srcSize ∷ []
+abbrev cells_of : Record → List ℕ
+cells_of r = r.form ∷ r.operation ∷ r.dst_tag ∷ r.dst ∷ r.src_tag ∷ r.src ∷ r.size ∷ r.src_size ∷ []
 
-abbrev allCells : List Instruction → List ℕ
-allCells [] = []
-allCells (i ∷ is) = cellsOf (recordOf i) ++ allCells is
+abbrev all_cells : List Instruction → List ℕ
+all_cells [] = []
+all_cells (i ∷ is) = cells_of (record_of i) ++ all_cells is
 
 -- 0, the record count and the cells, or number and place
 abbrev shown : Outcome (List Instruction) → List ℕ
-shown (accepted is) = 0 ∷ length is ∷ allCells is
+shown (accepted is) = 0 ∷ length is ∷ all_cells is
 shown (refused n p) = n ∷ p ∷ []
 
 """
@@ -34,16 +32,16 @@ def equations(case, line):
     """What the lowering answers, which numbers are at fault, and which of them the plain test names."""
     args = f"({numbers(case.tables)}) ({numbers(case.sheet)})"
     cells = [c for r in case.records for c in r]
-    yield f"answer{case.index} : _≡_ {{A = List ℕ}} (shown (lowered {args} {case.out_len})) ({numbers([case.number, case.place] + cells)})"
+    yield f"answer{case.index} : ◌≡◌ {{A = List ℕ}} (shown (lowered {args} {case.out_len})) ({numbers([case.number, case.place] + cells)})"
     yield line
     yield f"answer{case.index} = refl\n"
     asked = asked_faults(case)
     flags = " ∷ ".join("true" if k in case.faults else "false" for k in asked) + " ∷ []"
-    yield f"faults{case.index} : _≡_ {{A = List Bool}} (map (isFault {args}) ({numbers(asked)})) ({flags})"
+    yield f"faults{case.index} : ◌≡◌ {{A = List Bool}} (map (is_fault {args}) ({numbers(asked)})) ({flags})"
     yield line
     yield f"faults{case.index} = refl\n"
     first = f"some {case.faults[0]}" if case.faults else "none"
-    yield f"first{case.index} : _≡_ {{A = Option ℕ}} (firstFault {args}) ({first})"
+    yield f"first{case.index} : ◌≡◌ {{A = Option ℕ}} (first_fault {args}) ({first})"
     yield line
     yield f"first{case.index} = refl\n"
 
@@ -90,7 +88,7 @@ def choose(cases, count, most):
 def modules(count, most, jobs):
     """The equations of `count` cases of at most `most` bytes of tables and sheet, as `jobs` modules, and what they are about."""
     uses, line = unfolding(["steps"])
-    cases = choose(vectors.load(ROOT / "vectors/answers.bin"), count, most) if count else []
+    cases = choose(vectors.load(ROOT / "crates/replay/stdin"), count, most) if count else []
     texts = {f"answers{k}": HEADER % uses + "\n".join(l for c in cases[k::jobs] for l in equations(c, line)) for k in range(jobs) if cases}
     counts = collections.Counter(c.number for c in cases)
     refused = "".join(f", {counts[number]} refused {number}" for number in sorted(counts) if number > 0)

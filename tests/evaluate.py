@@ -1,11 +1,11 @@
 #!/usr/bin/env python3
 """Has the checker itself evaluate the definitions: equations by refl over the oracle's stored answers and over stored runs.
 
-usage: evaluate.py [--answers N] [--most BYTES] [--runs N] [--calls N] [--jobs N] [--apart]
+usage: evaluate.py [--answers N] [--most BYTES] [--runs N] [--calls N] [--jobs N] [--behind-ci]
 
 At most N answers of the fixed list (default 320), of at most BYTES bytes of tables and sheet (default 480) but that every refusal and several
-instructions at fault are among them, N runs (default 120), and N calls of the other exports (default 120). Each job is one crate of equations. --apart leaves target/ alone, which another run
-may be writing.
+instructions at fault are among them, N runs (default 120), and N calls of the other exports (default 120). Each job is one crate of equations. With --behind-ci, for tests/run
+alone, they stand on the libraries that `rt ci` has left in crates/*/out.
 """
 import argparse, time
 import answers, calls, runs, scratch
@@ -18,16 +18,16 @@ def main():
     parser.add_argument("--runs", type=int, default=120)
     parser.add_argument("--calls", type=int, default=120)
     parser.add_argument("--jobs", type=int, default=1)
-    parser.add_argument("--apart", action="store_true")
+    parser.add_argument("--behind-ci", action="store_true")
     options = parser.parse_args()
     start = time.time()
     some, about_answers = answers.modules(options.answers, options.most, options.jobs)
     others, about_runs = runs.modules(options.runs, options.jobs)
     called, about_calls = calls.modules(options.calls, options.jobs)
     if some or others:
-        scratch.check({**some, **others}, built=not options.apart)
+        scratch.check({**some, **others}, behind_ci=options.behind_ci)
     if called:
-        scratch.check(called, calls.CRATES, built=not options.apart)
+        scratch.check(called, calls.CRATES, behind_ci=options.behind_ci)
     print(f"evaluate: by the definitions, {about_answers}; {about_runs}; {about_calls}; {time.time() - start:.0f} s")
 
 

@@ -78,18 +78,18 @@ def codes(function, path="crates/x86/specs/Records.antt"):
 
 
 def control_codes():
-    outer = block(text("crates/x86/specs/Records.antt"), r"^ctrlCode \(CtrlOp\.JmpCC cc\) = 16 \* (\d+) \+ conditionCode cc$", "JmpCC's code")
-    return codes("ctrlCode") | {"JMP_CC": 16 * int(outer)}
+    outer = block(text("crates/x86/specs/Records.antt"), r"^ctrl_code \(CtrlOp\.JmpCC cc\) = 16 \* (\d+) \+ condition_code cc$", "JmpCC's code")
+    return codes("ctrl_code") | {"JMP_CC": 16 * int(outer)}
 
 
 def prefix_codes():
     source = text("crates/x86/specs/Records.antt")
-    block(source, r"(16 \* prefixCode prefix \+ stringCode op)", "the code of a prefix")
-    return {f"{p}_{s}": 16 * n + m for p, n in codes("prefixCode").items() for s, m in codes("stringCode").items()}
+    block(source, r"(16 \* prefix_code prefix \+ string_code op)", "the code of a prefix")
+    return {f"{p}_{s}": 16 * n + m for p, n in codes("prefix_code").items() for s, m in codes("string_code").items()}
 
 
 def forms():
-    return numbered(re.findall(r"^recordOf \(Instruction\.(\w+)[^=]*=\s+recordWith (\d+)", text("crates/x86/specs/Records.antt"), re.M))
+    return numbered(re.findall(r"^record_of \(Instruction\.(\w+)[^=]*=\s+record_with (\d+)", text("crates/x86/specs/Records.antt"), re.M))
 
 
 def registers():
@@ -109,13 +109,13 @@ def rust_enum(name):
 
 def operand_kinds():
     """The definition's look-up has them in the same order; its last is the default."""
-    order = block(text("crates/ir/specs/Function.antt"), r"getD \(([\w ∷]+?) ∷ \[\]\) \(cellAt s k\) \(λ s k\. Operand\.Null\)", "operandAt")
-    return same_order("Operand", order, "Operand", {"data": "DataAddress"})
+    order = block(text("crates/ir/specs/Function.antt"), r"get_or \(([\w ∷]+?) ∷ \[\]\) \(cell_at s k\) \(λ s k\. Operand\.Null\)", "operand_at")
+    return same_order("Operand", order, "_operand", {"data": "DataAddress"})
 
 
 def instruction_kinds():
-    order = block(text("crates/ir/specs/Function.antt"), r"getD \(([\w ∷]+?) ∷ \[\]\) \(cellAt s k\) \(λ s k\. Instr\.Comment\)", "instrAt")
-    return same_order("Instr", order, "At", {})
+    order = block(text("crates/ir/specs/Function.antt"), r"get_or \(([\w ∷]+?) ∷ \[\]\) \(cell_at s k\) \(λ s k\. Instr\.Comment\)", "instr_at")
+    return same_order("Instr", order, "_at", {})
 
 
 def same_order(enum, order, ending, longer):
@@ -131,20 +131,20 @@ def binary_operations():
 
 
 def type_codes():
-    """The comment above elementWidth names the codes; code 0 is none."""
+    """The comment above element_width names the codes; code 0 is none."""
     said = block(text("crates/ir/specs/Types.antt"), r"by its code: (1 long.*?12 Null)", "the comment on type codes").replace("\n--", "")
     return {"NONE": 0} | numbered((name, n) for n, name in re.findall(r"(\d+) ([A-Za-z ]+)", said))
 
 
 def widths():
-    return [int(n) for n in block(text("crates/ir/specs/Types.antt"), r"^elementWidth code = getD \(([\d ∷]+) ∷ \[\]\)", "elementWidth").split("∷")]
+    return [int(n) for n in block(text("crates/ir/specs/Types.antt"), r"^element_width code = get_or \(([\d ∷]+) ∷ \[\]\)", "element_width").split("∷")]
 
 
 def cells():
     source = text("crates/ir/specs/Function.antt")
-    head, entry = block(source, r"^paramsFrom s = (\d+) \+ (\d+) \* cellAt s 0$", "paramsFrom")
-    variable = block(source, r"^bodyFrom s = paramsFrom s \+ (\d+) \* cellAt s 1$", "bodyFrom")
-    instr, operand = block(source, r"^behind s k = k \+ (\d+) \+ (\d+) \* argumentsAt s k$", "behind")
+    head, entry = block(source, r"^params_from s = (\d+) \+ (\d+) \* cell_at s 0$", "params_from")
+    variable = block(source, r"^body_from s = params_from s \+ (\d+) \* cell_at s 1$", "body_from")
+    instr, operand = block(source, r"^behind s k = k \+ (\d+) \+ (\d+) \* arguments_at s k$", "behind")
     return numbered([("head", head), ("type", entry), ("variable", variable), ("operand", operand), ("instr", instr)])
 
 
@@ -232,7 +232,7 @@ def page_records():
 
 def check_records():
     """Each row's operations, tags and sizes are exactly those that the fixed list's records have."""
-    records = [record for case in vectors.load(ROOT / "vectors/answers.bin") for record in case.records]
+    records = [record for case in vectors.load(ROOT / "crates/replay/stdin") for record in case.records]
     seen = {}
     for form, operation, dst_tag, _, src_tag, _, size, source_size in records:
         for values, value in zip(seen.setdefault((form, operation), [set(), set(), set(), set()]), (dst_tag, src_tag, size, source_size)):
@@ -260,7 +260,7 @@ def check_record_bytes():
 # -- the comparison
 
 def listed_operations():
-    return {name: n for name, n in codes("binCode").items() if name not in IN_NO_LIST}
+    return {name: n for name, n in codes("bin_code").items() if name not in IN_NO_LIST}
 
 
 # enum, prefix, definitions, page
@@ -275,16 +275,16 @@ ENUMS = [
     ("binary", "BINARY_", binary_operations, lambda: listed("Instructions", "BinaryOp")),
     ("form", "FORM_", forms, lambda: {upper(row[0].split()[1]): int(row[0].split()[0]) for row in rows("Records", "form")}),
     ("bin_op", "OP_", listed_operations, lambda: page_operations("Binary")),
-    ("complex_bin_op", "OP_", lambda: codes("complexCode"), lambda: page_operations("ComplexBinary")),
-    ("conv_op", "OP_", lambda: codes("convCode"), lambda: page_operations("Convert")),
+    ("complex_bin_op", "OP_", lambda: codes("complex_code"), lambda: page_operations("ComplexBinary")),
+    ("conv_op", "OP_", lambda: codes("conv_code"), lambda: page_operations("Convert")),
     ("ctrl_op", "OP_", control_codes, lambda: page_operations("Ctrl")),
-    ("extend_op", "OP_", lambda: codes("extendCode"), lambda: page_operations("Extend")),
+    ("extend_op", "OP_", lambda: codes("extend_code"), lambda: page_operations("Extend")),
     ("prefix_op", "OP_", prefix_codes, lambda: page_operations("Prefix")),
-    ("shift_op", "OP_", lambda: codes("shiftCode"), lambda: page_operations("Shift")),
-    ("stack_op", "OP_", lambda: codes("stackCode"), lambda: page_operations("Stack")),
-    ("unary_op", "OP_", lambda: codes("unaryCode"), lambda: page_operations("Unary")),
-    ("condition_code", "CC_", lambda: codes("conditionCode"), lambda: page_operations("SetCC")),
-    ("tag", "TAG_", lambda: codes("tagOf") | codes("baseTag"), lambda: tabled("Records", "tag")),
+    ("shift_op", "OP_", lambda: codes("shift_code"), lambda: page_operations("Shift")),
+    ("stack_op", "OP_", lambda: codes("stack_code"), lambda: page_operations("Stack")),
+    ("unary_op", "OP_", lambda: codes("unary_code"), lambda: page_operations("Unary")),
+    ("condition_code", "CC_", lambda: codes("condition_code"), lambda: page_operations("SetCC")),
+    ("tag", "TAG_", lambda: codes("tag_of") | codes("base_tag"), lambda: tabled("Records", "tag")),
     ("register", "", registers, page_registers),
 ]
 

@@ -169,7 +169,7 @@ def check_oracle(tool, cases, folder):
 
 def main():
     tool, store = sys.argv[1], "--store" in sys.argv
-    cases = vectors.load(ROOT / "vectors/answers.bin")
+    cases = vectors.load(ROOT / "crates/replay/stdin")
     shapes = check_shapes(tool, cases, store)
     with tempfile.TemporaryDirectory() as name:
         folder = pathlib.Path(name)

@@ -3,7 +3,7 @@
 
 usage: listings.py [--check] [PROGRAM WORDS..]
 
-Writes the stored run. With --check it compares the files that are there. A program, as `target/bin/listing` or `oracle/target/release/oracle answer`, is run
+Writes the stored run. With --check it compares the files that are there. A program, as `crates/listing/out/listing` or `oracle/target/release/oracle answer`, is run
 on every input and its text compared.
 """
 import pathlib, subprocess, sys

@@ -23,7 +23,7 @@ def text(cases, calls):
 
 
 def main():
-    cases, calls = vectors.load_all(ROOT / "vectors/answers.bin")
+    cases, calls = vectors.load_all(ROOT / "crates/replay/stdin")
     want = text(cases, calls)
     if sys.argv[1:] == ["--check"]:
         if STDOUT.read_text() != want:

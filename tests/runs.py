@@ -13,41 +13,35 @@ STACKED = BASE + 16
 AROUND = 7
 TABLES = [0] * 8
 
-HEADER = """use Prim.Native.Nat.{ℕ, zero, suc, _+_, _*_, _-_, _%%_}
-use mathlib.Core.Path.{_≡_, refl}
-use mathlib.Core.Bool.{Bool, true, false, cond, _&&_}
-use mathlib.Core.List.{List, [], _∷_, _++_, map}
-use lib.Dec.{ltb, leb}
-use lib.ListN.{getD}
-use Rattle·x86.specs.declared.enums.Instruction.{Instruction}
-use Rattle·x86.specs.declared.mem_address.Base.{Base}
-use Rattle·codegen.specs.Generation.{Outcome, accepted, refused}
-use Rattle·machine.specs.Simulation.{start}
-use Rattle·machine.specs.Word.{bound}
+HEADER = """use Rattle.std.specs.Prelude.{ℕ, zero, suc, ◌+◌, ◌*◌, ◌-◌, ◌%%◌, ◌≡◌, Bool, true, false, cond, ◌&&◌, List, [], ◌∷◌, ◌++◌, ltb, leb, get_or}
+use Rattle.std.proofs.Common.{refl}
+use mathlib.Core.List.{map}
+use Rattle.x86.specs.declared.enums.Instruction.{Instruction}
+use Rattle.x86.specs.declared.mem_address.Base.{Base}
+use Rattle.codegen.specs.Generation.{Outcome, accepted, refused}
+use Rattle.machine.specs.Simulation.{start}
+use Rattle.machine.specs.Word.{bound}
 %s
 
-abbrev listOf : Outcome (List Instruction) → List Instruction
-listOf (accepted is) = is
-listOf (refused n p) = []
+abbrev list_of : Outcome (List Instruction) → List Instruction
+list_of (accepted is) = is
+list_of (refused n p) = []
 
 -- the frame's bytes below the base, those of the parameters on the stack above it, and the same byte around them
 abbrev memory : ℕ → List ℕ → List ℕ → ℕ → ℕ
 memory frame bytes stacked a =
-    cond (leb (BASE - frame) a && ltb a BASE) (getD bytes (a - (BASE - frame)) AROUND) (cond (leb STACKED a) (getD stacked (a - STACKED) AROUND) AROUND)
+    cond (leb (BASE - frame) a && ltb a BASE) (get_or bytes (a - (BASE - frame)) AROUND) (cond (leb STACKED a) (get_or stacked (a - STACKED) AROUND) AROUND)
 
 abbrev entry : List ℕ → ℕ → List ℕ → List ℕ → x86.State
 entry regs frame bytes stacked =
     record {
-      regs = getD′ regs;
+      regs = λ r. get_or regs r 0;
       mem = memory frame bytes stacked;
       flags = record { zf = true; sf = false; cf = true; pf = false; ov = true; df = false };
       links = λ b k. 0;
       pos = 0;
       status = x86.running;
     }
-  where
-    getD′ : List ℕ → ℕ → ℕ
-    getD′ rs r = getD rs r 0
 
 -- what the manual leaves open
 abbrev choice : ℕ → x86.Choice
@@ -59,18 +53,18 @@ choice m =
       mem = λ a. 1;
     }
 
-abbrev stepsEnd : steps.Status → List ℕ
-stepsEnd steps.running = 3 ∷ []
-stepsEnd steps.faulted = 2 ∷ 0 ∷ 0 ∷ []
-stepsEnd steps.stuck = 4 ∷ []
-stepsEnd (steps.returned n v) = 1 ∷ n ∷ v ∷ []
+abbrev steps_end : steps.Status → List ℕ
+steps_end steps.running = 3 ∷ []
+steps_end steps.faulted = 2 ∷ 0 ∷ 0 ∷ []
+steps_end steps.stuck = 4 ∷ []
+steps_end (steps.returned n v) = 1 ∷ n ∷ v ∷ []
 
 -- a return goes to the address that lay at RSP
-abbrev recordsEnd : x86.Status → List ℕ
-recordsEnd x86.running = 3 ∷ []
-recordsEnd x86.faulted = 2 ∷ []
-recordsEnd x86.undefined = 4 ∷ []
-recordsEnd (x86.returned a) = 1 ∷ a ∷ []
+abbrev records_end : x86.Status → List ℕ
+records_end x86.running = 3 ∷ []
+records_end x86.faulted = 2 ∷ []
+records_end x86.undefined = 4 ∷ []
+records_end (x86.returned a) = 1 ∷ a ∷ []
 
 abbrev from : ℕ → ℕ → List ℕ
 from a zero = []
@@ -79,15 +73,15 @@ from a (suc n) = a ∷ from (suc a) n
 -- F after n steps: its end, and the bytes of its variables, each given by its number and its count of bytes
 abbrev stepped : List ℕ → x86.State → ℕ → List (List ℕ) → List ℕ
 stepped sheet s n asked =
-    let t : steps.State = steps.run (functionOf sheet) n (start (functionOf sheet) s) in
-    stepsEnd (t .status) ++ map (λ (p : List ℕ). t .vals (getD p 0 0) (getD p 1 0)) asked
+    let t : steps.State = steps.run (function_of sheet) n (start (function_of sheet) s) in
+    steps_end (t.status) ++ map (λ (p : List ℕ). t.vals (get_or p 0 0) (get_or p 1 0)) asked
 
 -- the records after m: their end, the registers that a callee keeps, RBP and RSP, the w low bytes of RAX, n bytes of memory from a on
 abbrev ran : List ℕ → x86.State → ℕ → ℕ → ℕ → ℕ → List ℕ
 ran sheet s m w a n =
-    let t : x86.State = x86.run (listOf (lowered (TABLES) sheet 1048576)) choice m s in
-    recordsEnd (t .status)
-    ++ map (t .regs) (3 ∷ 12 ∷ 13 ∷ 14 ∷ 15 ∷ 5 ∷ 4 ∷ []) ++ t .regs 0 %% bound w ∷ map (t .mem) (from a n)
+    let t : x86.State = x86.run (list_of (lowered (TABLES) sheet 1048576)) choice m s in
+    records_end (t.status)
+    ++ map (t.regs) (3 ∷ 12 ∷ 13 ∷ 14 ∷ 15 ∷ 5 ∷ 4 ∷ []) ++ t.regs 0 %% bound w ∷ map (t.mem) (from a n)
 
 """
 
@@ -140,14 +134,14 @@ def equations(k, run, line):
     asked = [(x, i) for x, size in enumerate(run.sizes()) for i in range(size)]
     pairs = "".join(f"({x} ∷ {i} ∷ []) ∷ " for x, i in asked) + "[]"
     end = [2, 0, 0] if run.end == 2 else [1, run.width, run.value]
-    yield f"stepped{k} : _≡_ {{A = List ℕ}} (stepped ({sheet}) {state} {run.steps} ({pairs})) ({numbers(end + run.variables)})"
+    yield f"stepped{k} : ◌≡◌ {{A = List ℕ}} (stepped ({sheet}) {state} {run.steps} ({pairs})) ({numbers(end + run.variables)})"
     yield line
     yield f"stepped{k} = refl\n"
     kept = [3, 12, 13, 14, 15]
     bp, sp = (BASE, BASE - frame) if run.end == 2 else (run.registers[5], RSP + 8)
     end = [2] if run.end == 2 else [1, int.from_bytes([AROUND] * 8, "little")]
     after = end + [run.registers[r] for r in kept] + [bp, sp, run.value] + run.memory_after()
-    yield f"ran{k} : _≡_ {{A = List ℕ}} (ran ({sheet}) {state} {records} {run.width} {BASE - frame - 8} {span}) ({numbers(after)})"
+    yield f"ran{k} : ◌≡◌ {{A = List ℕ}} (ran ({sheet}) {state} {records} {run.width} {BASE - frame - 8} {span}) ({numbers(after)})"
     yield line
     yield f"ran{k} = refl\n"
 

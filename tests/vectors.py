@@ -12,7 +12,6 @@ EXPORTS = [
     Shape("pack_totals", 2, 0, 0, 3),
     Shape("to_edition2", 1, 0, 1, 1),
     Shape("to_edition1", 1, 0, 1, 1),
-    Shape("run", 3, 1, 2, 3),
 ]
 
 

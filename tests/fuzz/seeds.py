@@ -43,15 +43,12 @@ def of_call(call):
         return "pack", slice_of(call.reads[1]) + varint(0) + slice_of(call.reads[0])
     if call.name in ("to_edition2", "to_edition1"):
         return "edition", slice_of(call.reads[0]) + varint(call.writes[0][0])
-    if call.name == "run":
-        frame = call.writes[0][1]
-        return "run", b"".join(map(slice_of, call.reads)) + slice_of(frame) + varint(call.writes[1][0]) + varint(call.takes[0])
     raise SystemExit(f"seeds: {call.name} has no driver")
 
 
 def main(folder, most=4096):
     count = collections.Counter()
-    cases, calls = vectors.load_all(ROOT / "vectors" / "answers.bin")
+    cases, calls = vectors.load_all(ROOT / "crates/replay/stdin")
     for driver, data in [of_case(case) for case in cases] + [of_call(call) for call in calls]:
         if len(data) <= int(most):
             to = pathlib.Path(folder) / driver
