@@ -25,7 +25,8 @@ pub(crate) fn difference(
     what: u64,
     counts: &mut [u64; 32],
 ) -> io::Result<()> {
-    count(counts, DIFFERENCES, 1);
     print!(rt; "difference ")?;
-    print_pair(rt, index, what)
+    print_pair(rt, index, what)?;
+    count(counts, DIFFERENCES, 1);
+    Ok(())
 }
