@@ -1,23 +1,16 @@
 -- Laws of byte lists and cells: pieces written one behind the other are one piece, and a number's eight bytes read back as the number.
-use Prim.Native.Nat.{ℕ, ◌+◌, ◌*◌, ◌/◌, ◌%◌, ◌^◌, ◌≤◌, ◌<◌}
+use Prim.Native.Nat.{ℕ, ◌+◌, ◌-◌, ◌*◌, ◌/◌, ◌%◌, ◌^◌, ◌≤◌, ◌<◌}
 use mathlib.Core.Path.{◌≡◌, refl, sym, ap, ◌∙◌}
 use mathlib.Core.List.{List, [], ◌∷◌, ◌++◌, append_assoc}
-use native.Mathlib.Numerals.{add-one, add-two, add-three, add-four, add_five, add_six, add_seven}
 use native.Mathlib.Nat.{add_assoc, add-zero, mod-mod, mod-eq_of_lt, div-div-eq-div-mul}
 use lib.Arith.{mod-mul}
 use native.Mathlib.Omega.{arith}
-use lib.ListN.{length, get_or, take, drop, set, length-append, length-take, length-drop}
-use lib.Seq.{sets-eq, take_at, drop_at, drop-drop, get_or-append-add}
+use lib.ListN.{length, get_or, take, drop, length-append, length-take, length-drop}
+use lib.Seq.{take_at, drop_at, drop-drop, get_or-append-add}
+use borrow.Rule.Slice.PartMut.{put_mid}
 use Rattle.cells.specs.Cells.{write, bytes_of, half, word}
 
 -- ---- pieces
-
--- eight stores
-pub eight : (s : List ℕ) (at a b c d e f g h : ℕ) → at + 8 ≤ length s →
-    set (set (set (set (set (set (set (set s at a) (at + 1) b) (at + 2) c) (at + 3) d) (at + 4) e) (at + 5) f) (at + 6) g) (at + 7) h
-    ≡ take at s ++ (a ∷ b ∷ c ∷ d ∷ e ∷ f ∷ g ∷ h ∷ []) ++ drop (at + 8) s
-eight s at a b c d e f g h p =
-    rw (add-one at, add-two at, add-three at, add-four at, add_five at, add_six at, add_seven at) (sets-eq (a ∷ b ∷ c ∷ d ∷ e ∷ f ∷ g ∷ h ∷ []) s at p)
 
 pub bytes_of_length : (v : ℕ) → length (bytes_of v) ≡ 8
 unfolding bytes_of
@@ -105,3 +98,10 @@ half_lt s at = omega arith
 pub word_lt : (s : List ℕ) (at : ℕ) → word s at < 2 ^ 64
 unfolding word
 word_lt s at = omega (arith, half_lt s at, half_lt s (at + 4))
+
+-- a part from `at` to before `e`, written over with as many bytes
+pub part_written : (xs : List ℕ) (at e : ℕ) (bs : List ℕ) → e ≡ at + length bs → put_mid at (e - at) xs bs ≡ write xs at bs
+unfolding write
+part_written xs at e bs h =
+    let k : e - at ≡ length bs = omega arith in
+    rw k (rw drop-drop (sym (append_assoc (take at xs) bs (drop (at + length bs) xs))))

@@ -1,9 +1,8 @@
 -- Believed: cells of a byte list: eight bytes each, little-endian, two's complement, counted from 0 (docs/FORMAT.md, "Cells").
 -- A byte is taken modulo 256 where it is read, so that every cell is below 2 ^ 64 whatever the list holds.
-use Rattle.std.specs.Prelude.{ℕ, zero, suc, ◌+◌, ◌*◌, ◌-◌, ◌/◌, ◌%◌, ◌^◌, ◌<◌, List, [], ◌∷◌, ◌++◌, cond, length, get_or, take, drop, ltb}
+use Rattle.std.specs.Prelude.{ℕ, zero, suc, ◌+◌, ◌*◌, ◌-◌, ◌/◌, ◌%◌, ◌^◌, ◌<◌, List, [], ◌∷◌, ◌++◌, cond, length, get_or, take, drop, ltb, Result, Ok, Err}
 use Rattle.cells.specs.declared.Cursor.{Cursor}
-use Rattle.cells.specs.declared.Cell.{Cell}
-use Rattle.cells.specs.declared.Cell.TheVariants.{Word, Wrong}
+use Rattle.cells.specs.declared.WrongCell.{WrongCell}
 
 -- the byte at a place
 abbrev pub byte_at : List ℕ → ℕ → ℕ
@@ -33,14 +32,21 @@ minus n = (2 ^ 64 - n) % 2 ^ 64
 abbrev pub largest : ℕ
 largest = 2 ^ 63 - 1
 
--- reading at a cursor: the cell and the cursor behind it, or the number of a cell that is missing or torn
+-- a cell and the cursor behind it, or the number of a cell that is missing, torn or wrong
+abbrev pub Cell : Type 0
+Cell = Result (ℕ × Cursor) WrongCell
+
+abbrev pub wrong : ℕ → Cell
+wrong k = Err (record { cell = k })
+
+-- reading at a cursor
 unfoldable pub read_cell : List ℕ → Cursor → Cell
-read_cell s c = cond (ltb c.at (cells s)) (Word (cell_at s c.at) (record { at = c.at + 1 })) (Wrong c.at)
+read_cell s c = cond (ltb c.at (cells s)) (Ok (cell_at s c.at, record { at = c.at + 1 })) (wrong c.at)
 
 -- a cell that was read at `at`, if its number is from low to high, else a wrong cell
 abbrev pub keep_within : ℕ → ℕ → ℕ → Cell → Cell
-keep_within at low high (Word v c) = cond (ltb v low) (Wrong at) (cond (ltb high v) (Wrong at) (Word v c))
-keep_within at low high (Wrong k) = Wrong k
+keep_within at low high (Ok x) = cond (ltb x.0 low) (wrong at) (cond (ltb high x.0) (wrong at) (Ok x))
+keep_within at low high (Err w) = Err w
 
 -- reading a cell whose number is from low to high
 unfoldable pub read_within : List ℕ → Cursor → ℕ → ℕ → Cell
@@ -48,8 +54,8 @@ read_within s c low high = keep_within c.at low high (read_cell s c)
 
 -- what follows a cell that was read; a wrong cell is refused
 abbrev pub bind_cell : {R : Type 0} → (ℕ → R) → Cell → (ℕ → Cursor → R) → R
-bind_cell refuse (Word v c) rest = rest v c
-bind_cell refuse (Wrong k) rest = refuse k
+bind_cell refuse (Ok x) rest = rest x.0 x.1
+bind_cell refuse (Err w) rest = refuse w.cell
 
 -- the eight bytes of a number
 unfoldable pub bytes_of : ℕ → List ℕ

@@ -1,7 +1,9 @@
 -- Believed: the answer to a call: what was asked for, or a refusal by its number and place (docs/FORMAT.md, "Refusals"). A place is a cell, an instruction's
 -- number from 1 and 0 before the body, or how much is needed.
-use Rattle.std.specs.Prelude.{ℕ, Bool, true, false}
+use Rattle.std.specs.Prelude.{ℕ, Bool, true, false, Result, Ok, Err}
 use Rattle.std.proofs.Math.Option.{Option, none, some}
+use Rattle.cells.specs.declared.refusals.Refused.{Refused}
+use Rattle.cells.specs.Refusals.{number_of_refusal}
 
 pub data Outcome (A : Type 0) : Type 0 where
   accepted : A → Outcome A
@@ -39,3 +41,9 @@ number_of (refused n place) = n
 abbrev pub place_of : {A : Type 0} → (A → ℕ) → Outcome A → ℕ
 place_of f (accepted a) = f a
 place_of f (refused n place) = place
+
+-- ---- what the code answers
+
+abbrev pub outcome : {A : Type 0} → Result A Refused → Outcome A
+outcome (Ok a) = accepted a
+outcome (Err r) = refused (number_of_refusal r.refusal) r.place

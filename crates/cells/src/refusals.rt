@@ -1,21 +1,33 @@
-// The numbers of the refusals. specs/Refusals.antt names the same numbers for the definitions. Those of a layout are bytes, so that its answers, which
-// every cell that is read may give, are two words.
-pub const BAD_TABLE: u8 = 1;
+// A call is refused by a number, at a place.
+ghost use Rattle.std.specs.Prelude.{◌≡◌};
+ghost use Rattle.cells.specs.Refusals.{number_of_refusal};
 
-pub const TORN_SHEET: u8 = 2;
+// The refusals have these numbers. specs/Refusals.antt names the same numbers for the definitions.
+#[derive(Clone, Copy, Debug, PartialEq, Eq)]
+pub enum Refusal {
+    BadTable = 1,
+    TornSheet = 2,
+    Oversize = 3,
+    NoWidth = 4,
+    NoEntry = 5,
+    OddWidth = 6,
+    NoLowering = 7,
+    PageFull = 9,
+    BadPack = 13,
+    TypeDiffers = 17,
+}
 
-pub const OVERSIZE: u8 = 3;
+impl From<Refusal> for u64 {
+    ghost from_gives = { λ r n. n ≡ number_of_refusal r };
 
-pub const NO_WIDTH: u64 = 4;
+    fn from(refusal: Refusal) -> u64 {
+        refusal as u64
+    }
+}
 
-pub const NO_ENTRY: u64 = 5;
-
-pub const ODD_WIDTH: u64 = 6;
-
-pub const NO_LOWERING: u64 = 7;
-
-pub const PAGE_FULL: u64 = 9;
-
-pub const BAD_PACK: u8 = 13;
-
-pub const TYPE_DIFFERS: u64 = 17;
+// The place is a cell, an instruction's number from 1 and 0 before the body, or how much is needed.
+#[derive(Clone, Copy, Debug, PartialEq, Eq)]
+pub struct Refused {
+    pub refusal: Refusal,
+    pub place: u64,
+}

@@ -1,30 +1,9 @@
-use native.Mathlib.Omega.{arith}
-use lib.ListN.{length-set}
-use Rattle.cells.specs.Cells.{bytes_of, write}
-use Rattle.cells.proofs.Bytes.{eight}
+use Rattle.std.proofs.Common.{arith}
+use Rattle.cells.specs.Cells.{bytes_of}
+use Rattle.cells.proofs.Bytes.{bytes_of_length, part_written}
 use Rattle.cells.proofs.put_word.Goals as goal
 
-pub bounds-out-at-2 : goal.bounds-out-at-2
-bounds-out-at-2 c = simp length-set (omega arith)
-
-pub bounds-out-at-3 : goal.bounds-out-at-3
-bounds-out-at-3 c = simp length-set (omega arith)
-
-pub bounds-out-at-4 : goal.bounds-out-at-4
-bounds-out-at-4 c = simp length-set (omega arith)
-
-pub bounds-out-at-5 : goal.bounds-out-at-5
-bounds-out-at-5 c = simp length-set (omega arith)
-
-pub bounds-out-at-6 : goal.bounds-out-at-6
-bounds-out-at-6 c = simp length-set (omega arith)
-
-pub bounds-out-at-7 : goal.bounds-out-at-7
-bounds-out-at-7 c = simp length-set (omega arith)
-
-pub bounds-out-at-8 : goal.bounds-out-at-8
-bounds-out-at-8 c = simp length-set (omega arith)
-
 pub returns : goal.returns
-unfolding bytes_of write
-returns c = eight _ _ _ _ _ _ _ _ _ _ c.requires
+unfolding bytes_of
+returns c =
+    rw c.copy_from_slice.ensures.after (rw c.to_le_bytes.ensures (part_written _ _ _ (bytes_of c.args.v) (omega (arith, bytes_of_length c.args.v))))
