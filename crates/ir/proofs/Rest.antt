@@ -10,10 +10,11 @@ use Rattle.ir.specs.Types.{element_width, element_size, bytes, rounded_up, offse
 use mathlib.Core.List.{List, [], ◌∷◌}
 use lib.ListN.{get_or}
 use lib.Dec.{eqb}
-use Rattle.ir.specs.Function.{unary_op, var_operand, int_operand, float_operand, bool_operand, address_operand, data_operand, copy_at, unary_at, binary_at, cast_at, zero_at, call_at, label_at, jump_at, jump_if_not_at, return_at}
+use Rattle.ir.specs.Function.{unary_op, binary_op, var_operand, int_operand, float_operand, bool_operand, address_operand, data_operand, copy_at, unary_at, binary_at, cast_at, zero_at, call_at, label_at, jump_at, jump_if_not_at, return_at}
 use Rattle.ir.specs.declared.Operand.{Operand}
 use Rattle.ir.specs.declared.Instr.{Instr}
 use Rattle.ir.specs.declared.UnaryOp.{UnaryOp}
+use Rattle.ir.specs.declared.BinaryOp.{BinaryOp}
 
 -- the codes from 16 on have no width
 pub wide_code : (code : ℕ) → 16 ≤ code → 0 ≡ element_width code
@@ -85,33 +86,59 @@ no_width_lem code =
 pub no_size : (w : ℕ) → (w ≡ 1 → ⊥) → (w ≡ 4 → ⊥) → (w ≡ 8 → ⊥) → Size.NoSize ≡ element_size w
 no_size w h1 h4 h8 = rw (ne_eqb w 1 h1, ne_eqb w 4 h4, ne_eqb w 8 h8)
 
-pub not_unary : (k : ℕ) → (k ≡ 0 → ⊥) → (k ≡ 1 → ⊥) → UnaryOp.Not ≡ unary_op k
+-- ---- the numbers that no arm names
+
+pub last_unary : (k : ℕ) → 2 ≤ k → UnaryOp.Not ≡ unary_op k
 unfolding unary_op
-not_unary zero h0 h1 = absurd (h0 refl)
-not_unary (suc zero) h0 h1 = absurd (h1 refl)
-not_unary (suc (suc k)) h0 h1 = refl
+last_unary zero h = absurd (omega (arith, h))
+last_unary (suc zero) h = absurd (omega (arith, h))
+last_unary (suc (suc n)) h = refl
 
-pub null_operand : (n : ℕ) (s : List ℕ) (k : ℕ) → (n ≡ 0 → ⊥) → (n ≡ 1 → ⊥) → (n ≡ 2 → ⊥) → (n ≡ 3 → ⊥) → (n ≡ 4 → ⊥) → (n ≡ 5 → ⊥) → Operand.Null ≡ get_or (var_operand ∷ int_operand ∷ float_operand ∷ bool_operand ∷ address_operand ∷ data_operand ∷ []) n (λ s k. Operand.Null) s k
-null_operand zero s k h0 h1 h2 h3 h4 h5 = absurd (h0 refl)
-null_operand (suc zero) s k h0 h1 h2 h3 h4 h5 = absurd (h1 refl)
-null_operand (suc (suc zero)) s k h0 h1 h2 h3 h4 h5 = absurd (h2 refl)
-null_operand (suc (suc (suc zero))) s k h0 h1 h2 h3 h4 h5 = absurd (h3 refl)
-null_operand (suc (suc (suc (suc zero)))) s k h0 h1 h2 h3 h4 h5 = absurd (h4 refl)
-null_operand (suc (suc (suc (suc (suc zero))))) s k h0 h1 h2 h3 h4 h5 = absurd (h5 refl)
-null_operand (suc (suc (suc (suc (suc (suc n)))))) s k h0 h1 h2 h3 h4 h5 = refl
+pub last_binary : (k : ℕ) → 17 ≤ k → BinaryOp.Rem ≡ binary_op k
+unfolding binary_op
+last_binary zero h = absurd (omega (arith, h))
+last_binary (suc zero) h = absurd (omega (arith, h))
+last_binary (suc (suc zero)) h = absurd (omega (arith, h))
+last_binary (suc (suc (suc zero))) h = absurd (omega (arith, h))
+last_binary (suc (suc (suc (suc zero)))) h = absurd (omega (arith, h))
+last_binary (suc (suc (suc (suc (suc zero))))) h = absurd (omega (arith, h))
+last_binary (suc (suc (suc (suc (suc (suc zero)))))) h = absurd (omega (arith, h))
+last_binary (suc (suc (suc (suc (suc (suc (suc zero))))))) h = absurd (omega (arith, h))
+last_binary (suc (suc (suc (suc (suc (suc (suc (suc zero)))))))) h = absurd (omega (arith, h))
+last_binary (suc (suc (suc (suc (suc (suc (suc (suc (suc zero))))))))) h = absurd (omega (arith, h))
+last_binary (suc (suc (suc (suc (suc (suc (suc (suc (suc (suc zero)))))))))) h = absurd (omega (arith, h))
+last_binary (suc (suc (suc (suc (suc (suc (suc (suc (suc (suc (suc zero))))))))))) h = absurd (omega (arith, h))
+last_binary (suc (suc (suc (suc (suc (suc (suc (suc (suc (suc (suc (suc zero)))))))))))) h = absurd (omega (arith, h))
+last_binary (suc (suc (suc (suc (suc (suc (suc (suc (suc (suc (suc (suc (suc zero))))))))))))) h = absurd (omega (arith, h))
+last_binary (suc (suc (suc (suc (suc (suc (suc (suc (suc (suc (suc (suc (suc (suc zero)))))))))))))) h = absurd (omega (arith, h))
+last_binary (suc (suc (suc (suc (suc (suc (suc (suc (suc (suc (suc (suc (suc (suc (suc zero))))))))))))))) h = absurd (omega (arith, h))
+last_binary (suc (suc (suc (suc (suc (suc (suc (suc (suc (suc (suc (suc (suc (suc (suc (suc zero)))))))))))))))) h = absurd (omega (arith, h))
+last_binary (suc (suc (suc (suc (suc (suc (suc (suc (suc (suc (suc (suc (suc (suc (suc (suc (suc zero))))))))))))))))) h = refl
+last_binary (suc (suc (suc (suc (suc (suc (suc (suc (suc (suc (suc (suc (suc (suc (suc (suc (suc (suc n)))))))))))))))))) h = refl
 
-pub comment_instr : (n : ℕ) (s : List ℕ) (k : ℕ) → (n ≡ 0 → ⊥) → (n ≡ 1 → ⊥) → (n ≡ 2 → ⊥) → (n ≡ 3 → ⊥) → (n ≡ 4 → ⊥) → (n ≡ 5 → ⊥) → (n ≡ 6 → ⊥) → (n ≡ 7 → ⊥) → (n ≡ 8 → ⊥) → (n ≡ 9 → ⊥) → Instr.Comment ≡ get_or (copy_at ∷ unary_at ∷ binary_at ∷ cast_at ∷ zero_at ∷ call_at ∷ label_at ∷ jump_at ∷ jump_if_not_at ∷ return_at ∷ []) n (λ s k. Instr.Comment) s k
-comment_instr zero s k h0 h1 h2 h3 h4 h5 h6 h7 h8 h9 = absurd (h0 refl)
-comment_instr (suc zero) s k h0 h1 h2 h3 h4 h5 h6 h7 h8 h9 = absurd (h1 refl)
-comment_instr (suc (suc zero)) s k h0 h1 h2 h3 h4 h5 h6 h7 h8 h9 = absurd (h2 refl)
-comment_instr (suc (suc (suc zero))) s k h0 h1 h2 h3 h4 h5 h6 h7 h8 h9 = absurd (h3 refl)
-comment_instr (suc (suc (suc (suc zero)))) s k h0 h1 h2 h3 h4 h5 h6 h7 h8 h9 = absurd (h4 refl)
-comment_instr (suc (suc (suc (suc (suc zero))))) s k h0 h1 h2 h3 h4 h5 h6 h7 h8 h9 = absurd (h5 refl)
-comment_instr (suc (suc (suc (suc (suc (suc zero)))))) s k h0 h1 h2 h3 h4 h5 h6 h7 h8 h9 = absurd (h6 refl)
-comment_instr (suc (suc (suc (suc (suc (suc (suc zero))))))) s k h0 h1 h2 h3 h4 h5 h6 h7 h8 h9 = absurd (h7 refl)
-comment_instr (suc (suc (suc (suc (suc (suc (suc (suc zero)))))))) s k h0 h1 h2 h3 h4 h5 h6 h7 h8 h9 = absurd (h8 refl)
-comment_instr (suc (suc (suc (suc (suc (suc (suc (suc (suc zero))))))))) s k h0 h1 h2 h3 h4 h5 h6 h7 h8 h9 = absurd (h9 refl)
-comment_instr (suc (suc (suc (suc (suc (suc (suc (suc (suc (suc n)))))))))) s k h0 h1 h2 h3 h4 h5 h6 h7 h8 h9 = refl
+pub null_operand : (n : ℕ) (s : List ℕ) (k : ℕ) → 6 ≤ n →
+    Operand.Null ≡ get_or (var_operand ∷ int_operand ∷ float_operand ∷ bool_operand ∷ address_operand ∷ data_operand ∷ []) n (λ s k. Operand.Null) s k
+null_operand zero s k h = absurd (omega (arith, h))
+null_operand (suc zero) s k h = absurd (omega (arith, h))
+null_operand (suc (suc zero)) s k h = absurd (omega (arith, h))
+null_operand (suc (suc (suc zero))) s k h = absurd (omega (arith, h))
+null_operand (suc (suc (suc (suc zero)))) s k h = absurd (omega (arith, h))
+null_operand (suc (suc (suc (suc (suc zero))))) s k h = absurd (omega (arith, h))
+null_operand (suc (suc (suc (suc (suc (suc n)))))) s k h = refl
+
+pub comment_instr : (n : ℕ) (s : List ℕ) (k : ℕ) → 10 ≤ n →
+    Instr.Comment ≡ get_or (copy_at ∷ unary_at ∷ binary_at ∷ cast_at ∷ zero_at ∷ call_at ∷ label_at ∷ jump_at ∷ jump_if_not_at ∷ return_at ∷ []) n (λ s k. Instr.Comment) s k
+comment_instr zero s k h = absurd (omega (arith, h))
+comment_instr (suc zero) s k h = absurd (omega (arith, h))
+comment_instr (suc (suc zero)) s k h = absurd (omega (arith, h))
+comment_instr (suc (suc (suc zero))) s k h = absurd (omega (arith, h))
+comment_instr (suc (suc (suc (suc zero)))) s k h = absurd (omega (arith, h))
+comment_instr (suc (suc (suc (suc (suc zero))))) s k h = absurd (omega (arith, h))
+comment_instr (suc (suc (suc (suc (suc (suc zero)))))) s k h = absurd (omega (arith, h))
+comment_instr (suc (suc (suc (suc (suc (suc (suc zero))))))) s k h = absurd (omega (arith, h))
+comment_instr (suc (suc (suc (suc (suc (suc (suc (suc zero)))))))) s k h = absurd (omega (arith, h))
+comment_instr (suc (suc (suc (suc (suc (suc (suc (suc (suc zero))))))))) s k h = absurd (omega (arith, h))
+comment_instr (suc (suc (suc (suc (suc (suc (suc (suc (suc (suc n)))))))))) s k h = refl
 
 -- ---- an offset behind another
 

@@ -1,8 +1,10 @@
 -- Auxiliary: what the code's answers say, a value or the number of a refusal, in the words of the definitions.
-use Rattle.std.specs.Prelude.{ℕ}
-use Rattle.ir.specs.declared.types.Number.{Number}
+use Rattle.std.specs.Prelude.{Ok, Err}
+use Rattle.std.specs.Prelude as std
+use Rattle.cells.specs.declared.refusals.Refusal.{Refusal}
+use Rattle.cells.specs.Refusals.{number_of_refusal}
 use Rattle.ir.specs.Types.{Result, ok, refused}
 
-abbrev pub number_says : Number → Result ℕ
-number_says (Number.Is n) = ok n
-number_says (Number.Refused n) = refused n
+abbrev pub says : {A : Type 0} → std.Result A Refusal → Result A
+says (Ok a) = ok a
+says (Err r) = refused (number_of_refusal r)

@@ -1,17 +1,13 @@
 -- Believed: what the cells of tables and sheet mean, where their layout is right (docs/FORMAT.md, "Tables" to "Instructions"; Krc's
 -- converter/ir/structs.rs).
-use Rattle.std.specs.Prelude.{ℕ, zero, suc, ◌+◌, ◌*◌, ◌-◌, List, [], ◌∷◌, Bool, cond, get_or, eqb, ltb}
+use Rattle.std.specs.Prelude.{ℕ, zero, suc, ◌+◌, ◌*◌, ◌-◌, List, [], ◌∷◌, Bool, cond, get_or, eqb, ltb, Option, Some, None}
 use Rattle.cells.specs.Cells.{cells, cell_at}
 use Rattle.ir.specs.declared.«Type».{«Type» as IrType}
 use Rattle.ir.specs.declared.VarId.{VarId}
 use Rattle.ir.specs.declared.Operand.{Operand}
 use Rattle.ir.specs.declared.UnaryOp.{UnaryOp}
-use Rattle.ir.specs.declared.Dest.{Dest}
+use Rattle.ir.specs.declared.BinaryOp.{BinaryOp}
 use Rattle.ir.specs.declared.Instr.{Instr}
-
--- Krc's `BinaryOp`, in its order
-pub data BinaryOp : Type 0 where
-  Or And BitOr BitXor BitAnd Eq NotEq Lt Le Gt Ge Shl Shr Add Sub Mul Div Rem : BinaryOp
 
 -- an operation by its position, from 0 to 17
 unfoldable pub binary_op : ℕ → BinaryOp
@@ -68,8 +64,8 @@ unfoldable pub unary_op : ℕ → UnaryOp
 unary_op k = get_or (UnaryOp.Neg ∷ UnaryOp.BitNot ∷ []) k UnaryOp.Not
 
 -- 1 or 0 for a call with or without dest
-abbrev pub dest_at : List ℕ → ℕ → Dest
-dest_at s k = cond (eqb (cell_at s (k + 1)) 1) (Dest.Var (var_at s (k + 2))) Dest.Nothing
+abbrev pub dest_at : List ℕ → ℕ → Option VarId
+dest_at s k = cond (eqb (cell_at s (k + 1)) 1) (Some (var_at s (k + 2))) None
 
 -- an instruction's fields, by its kind: the operation is cell 1 of its 13, dest begins at 2, left at 5, right at 9
 abbrev pub copy_at : List ℕ → ℕ → Instr
@@ -79,7 +75,7 @@ abbrev pub unary_at : List ℕ → ℕ → Instr
 unary_at s k = Instr.Unary (var_at s (k + 2)) (unary_op (cell_at s (k + 1))) (operand_at s (k + 5))
 
 abbrev pub binary_at : List ℕ → ℕ → Instr
-binary_at s k = Instr.Binary (var_at s (k + 2)) (cell_at s (k + 1)) (operand_at s (k + 5)) (operand_at s (k + 9))
+binary_at s k = Instr.Binary (var_at s (k + 2)) (binary_op (cell_at s (k + 1))) (operand_at s (k + 5)) (operand_at s (k + 9))
 
 abbrev pub cast_at : List ℕ → ℕ → Instr
 cast_at s k = Instr.Cast (var_at s (k + 2)) (operand_at s (k + 5))
@@ -114,6 +110,10 @@ arguments_at s k = cond (eqb (cell_at s k) 5) (cell_at s (k + 6)) 0
 -- the cell behind an instruction and its arguments
 unfoldable pub behind : List ℕ → ℕ → ℕ
 behind s k = k + 13 + 4 * arguments_at s k
+
+-- the type of a variable, where its id has an entry among the variable types, which begin at cell 6
+abbrev pub entry_at : List ℕ → ℕ → Option IrType
+entry_at s id = cond (ltb id (cell_at s 0)) (Some (type_at s (6 + 2 * id))) None
 
 -- ---- the function
 

@@ -5,14 +5,17 @@
 pub mod read;
 pub mod types;
 
+ghost use Rattle.std.specs.Prelude.{◌≡◌};
+ghost use Rattle.ir.specs.Function.{unary_op, binary_op};
+
 // Krc's `Type` is an element code from 1 to 12, and a count, which is the pattern of -1 where the type is no array. As a return type code 0 is none.
-#[derive(Clone, Copy)]
+#[derive(Clone, Copy, Debug, PartialEq, Eq)]
 pub struct Type {
     pub code: u64,
     pub count: u64,
 }
 
-#[derive(Clone, Copy)]
+#[derive(Clone, Copy, Debug, PartialEq, Eq)]
 pub struct VarId {
     pub id: u64,
     pub ty: Type,
@@ -30,21 +33,79 @@ pub enum Operand {
     Null,
 }
 
-#[derive(Clone, Copy)]
+#[derive(Clone, Copy, Debug, PartialEq, Eq)]
 pub enum UnaryOp {
     Neg,
     BitNot,
     Not,
 }
 
-// A call's destination is Krc's `Option<VarId>`.
-#[derive(Clone, Copy)]
-pub enum Dest {
-    Nothing,
-    Var(VarId),
+// A position in Krc's `UnaryOp`. The layout lets none above 2 pass.
+impl From<u64> for UnaryOp {
+    ghost from_gives = { λ k op. op ≡ unary_op k };
+
+    #[tactic(auto, unfolding(crate::specs::Function::unary_op), using(crate::proofs::Rest::last_unary))]
+    fn from(position: u64) -> UnaryOp {
+        match position {
+            0 => UnaryOp::Neg,
+            1 => UnaryOp::BitNot,
+            _ => UnaryOp::Not,
+        }
+    }
 }
 
-// `op` of a Binary is its position in Krc's `BinaryOp`. A Call has the number of its arguments, which follow it in the sheet.
+#[derive(Clone, Copy, Debug, PartialEq, Eq)]
+pub enum BinaryOp {
+    Or,
+    And,
+    BitOr,
+    BitXor,
+    BitAnd,
+    Eq,
+    NotEq,
+    Lt,
+    Le,
+    Gt,
+    Ge,
+    Shl,
+    Shr,
+    Add,
+    Sub,
+    Mul,
+    Div,
+    Rem,
+}
+
+// A position in Krc's `BinaryOp`. The layout lets none above 17 pass.
+impl From<u64> for BinaryOp {
+    ghost from_gives = { λ k op. op ≡ binary_op k };
+
+    #[tactic(auto, unfolding(crate::specs::Function::binary_op), using(crate::proofs::Rest::last_binary))]
+    fn from(position: u64) -> BinaryOp {
+        match position {
+            0 => BinaryOp::Or,
+            1 => BinaryOp::And,
+            2 => BinaryOp::BitOr,
+            3 => BinaryOp::BitXor,
+            4 => BinaryOp::BitAnd,
+            5 => BinaryOp::Eq,
+            6 => BinaryOp::NotEq,
+            7 => BinaryOp::Lt,
+            8 => BinaryOp::Le,
+            9 => BinaryOp::Gt,
+            10 => BinaryOp::Ge,
+            11 => BinaryOp::Shl,
+            12 => BinaryOp::Shr,
+            13 => BinaryOp::Add,
+            14 => BinaryOp::Sub,
+            15 => BinaryOp::Mul,
+            16 => BinaryOp::Div,
+            _ => BinaryOp::Rem,
+        }
+    }
+}
+
+// A call may have a destination. It has the number of its arguments, which follow it in the sheet.
 #[derive(Clone, Copy)]
 pub enum Instr {
     Copy {
@@ -58,7 +119,7 @@ pub enum Instr {
     },
     Binary {
         dest: VarId,
-        op: u64,
+        op: BinaryOp,
         left: Operand,
         right: Operand,
     },
@@ -68,7 +129,7 @@ pub enum Instr {
     },
     Zero(VarId),
     Call {
-        dest: Dest,
+        dest: Option<VarId>,
         symbol: u64,
         count: u64,
     },

@@ -1,9 +1,9 @@
 // The parts of a sheet are read at the number of their first cell. The sheet has the cells: whoever calls has checked its layout.
-ghost use Rattle.std.specs.Prelude.{◌≡◌, ◌+◌, ◌≤◌};
-ghost use Rattle.cells.specs.Cells.{cells};
-ghost use Rattle.ir.specs.Function.{type_at, var_at, operand_at, unary_op, dest_at, instr_at, behind, body_from};
+ghost use Rattle.std.specs.Prelude.{◌≡◌, ◌+◌, ◌≤◌, eqb};
+ghost use Rattle.cells.specs.Cells.{cells, cell_at};
+ghost use Rattle.ir.specs.Function.{type_at, var_at, operand_at, dest_at, instr_at, behind, body_from, entry_at, params_from};
 
-use crate::{Dest, Instr, Operand, Type, UnaryOp, VarId};
+use crate::{BinaryOp, Instr, Operand, Type, UnaryOp, VarId};
 use cells::cell_at;
 
 pub fn type_at(s: &[u8], k: usize) -> Type
@@ -27,6 +27,7 @@ pub fn var_at(s: &[u8], k: usize) -> VarId
     }
 }
 
+#[tactic(auto, unfolding(crate::specs::Function::operand_at))]
 pub fn operand_at(s: &[u8], k: usize) -> Operand
     requires { k + 4 ≤ cells s.now }
     ensures { result ≡ operand_at s.now k }
@@ -47,28 +48,19 @@ pub fn operand_at(s: &[u8], k: usize) -> Operand
     }
 }
 
-pub fn unary_op(number: u64) -> UnaryOp
-    ensures { result ≡ unary_op number }
-{
-    match number {
-        0 => UnaryOp::Neg,
-        1 => UnaryOp::BitNot,
-        _ => UnaryOp::Not,
-    }
-}
-
-pub fn dest_at(s: &[u8], k: usize) -> Dest
+pub fn dest_at(s: &[u8], k: usize) -> Option<VarId>
     requires { k + 5 ≤ cells s.now }
     ensures { result ≡ dest_at s.now k }
 {
     if cell_at(s, k + 1) == 1 {
-        Dest::Var(var_at(s, k + 2))
+        Some(var_at(s, k + 2))
     } else {
-        Dest::Nothing
+        None
     }
 }
 
 // An instruction is 13 cells: its kind, the operation, dest, left and right.
+#[tactic(auto, unfolding(crate::specs::Function::instr_at))]
 pub fn instr_at(s: &[u8], k: usize) -> Instr
     requires { k + 13 ≤ cells s.now }
     ensures { result ≡ instr_at s.now k }
@@ -81,12 +73,12 @@ pub fn instr_at(s: &[u8], k: usize) -> Instr
         },
         1 => Instr::Unary {
             dest: var_at(s, k + 2),
-            op: unary_op(cell_at(s, k + 1)),
+            op: UnaryOp::from(cell_at(s, k + 1)),
             src: operand_at(s, k + 5),
         },
         2 => Instr::Binary {
             dest: var_at(s, k + 2),
-            op: cell_at(s, k + 1),
+            op: BinaryOp::from(cell_at(s, k + 1)),
             left: operand_at(s, k + 5),
             right: operand_at(s, k + 9),
         },
@@ -129,4 +121,64 @@ pub fn body_from(s: &[u8]) -> usize
     ensures { result ≡ body_from s.now }
 {
     6 + 2 * cell_at(s, 0) as usize + 3 * cell_at(s, 1) as usize
+}
+
+// A sheet has the cells of all its variable types.
+#[derive(Clone, Copy)]
+pub struct Sheet<'a> {
+    pub bytes: &'a [u8],
+    ghost typed: { params_from bytes.now ≤ cells bytes.now },
+}
+
+impl<'a> Sheet<'a> {
+    // It gives the type of a variable that has an entry among them.
+    pub fn entry(&self, id: u64) -> Option<Type>
+        ensures { result ≡ entry_at self.now.bytes.now id }
+    {
+        if id < cell_at(self.bytes, 0) {
+            Some(type_at(self.bytes, 6 + 2 * id as usize))
+        } else {
+            None
+        }
+    }
+}
+
+// An instruction of a sheet begins at this cell, and the sheet has its thirteen cells.
+#[derive(Clone, Copy)]
+pub struct Line<'a> {
+    pub sheet: &'a [u8],
+    pub at: usize,
+    ghost whole: { at + 13 ≤ cells sheet.now },
+}
+
+impl<'a> Line<'a> {
+    pub fn kind(&self) -> u64
+        ensures { result ≡ cell_at self.now.sheet.now self.now.at }
+    {
+        cell_at(self.sheet, self.at)
+    }
+
+    pub fn operation(&self) -> u64
+        ensures { result ≡ cell_at self.now.sheet.now (self.now.at + 1) }
+    {
+        cell_at(self.sheet, self.at + 1)
+    }
+
+    pub fn dest(&self) -> VarId
+        ensures { result ≡ var_at self.now.sheet.now (self.now.at + 2) }
+    {
+        var_at(self.sheet, self.at + 2)
+    }
+
+    pub fn left(&self) -> Operand
+        ensures { result ≡ operand_at self.now.sheet.now (self.now.at + 5) }
+    {
+        operand_at(self.sheet, self.at + 5)
+    }
+
+    pub fn right(&self) -> Operand
+        ensures { result ≡ operand_at self.now.sheet.now (self.now.at + 9) }
+    {
+        operand_at(self.sheet, self.at + 9)
+    }
 }

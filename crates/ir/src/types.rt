@@ -1,18 +1,11 @@
 // These are Krc's answers on types and operands.
 ghost use Rattle.std.specs.Prelude.{◌≡◌, ◌≤◌};
 ghost use Rattle.ir.specs.Types.{is_scalar, element_width, bytes, rounded_up, type_size, is_float, is_unsigned, elf_size, operand_size, offset_behind};
-ghost use Rattle.ir.specs.Answers.{number_says};
+ghost use Rattle.ir.specs.Answers.{says};
 
 use crate::{Operand, Type};
-use cells::refusals::NO_WIDTH;
+use cells::refusals::Refusal;
 use x86::enums::Size;
-
-// It has a number, or the number of a refusal.
-#[derive(Clone, Copy)]
-pub enum Number {
-    Is(u64),
-    Refused(u64),
-}
 
 // The bytes of an element stand here by its code, four bits of a number for each.
 const WIDTHS: u64 = 0x811_1484_4880;
@@ -45,90 +38,64 @@ impl Type {
     }
 
     // It gives the bytes of a variable, and 0 where the type has no width.
+    #[tactic(auto, unfolding(crate::specs::Types::bytes))]
     pub fn bytes(self) -> u64
         ensures { (result ≡ bytes self) × (result ≤ 8388608) }
     {
         let width = element_width(self.code);
-        let count = self.count;
         if self.is_scalar() {
             return width;
         }
-        if count < 1048576 {
-            width * count
-        } else {
-            width * 1048576
-        }
+        width * self.count.min(1048576)
     }
 
-    pub fn size(self) -> Number
-        ensures { number_says result ≡ type_size self }
+    #[tactic(auto, unfolding(crate::specs::Types::type_size))]
+    pub fn size(self) -> Result<u64, Refusal>
+        ensures { says result ≡ type_size self }
     {
         if element_width(self.code) == 0 {
-            Number::Refused(NO_WIDTH)
-        } else {
-            Number::Is(self.bytes())
+            return Err(Refusal::NoWidth);
         }
+        Ok(self.bytes())
     }
 
+    #[tactic(auto, unfolding(crate::specs::Types::is_float))]
     pub fn is_float(self) -> bool
         ensures { result ≡ is_float self }
     {
-        let code = self.code;
-        if self.is_scalar() {
-            match code {
-                5 => true,
-                6 => true,
-                _ => false,
-            }
-        } else {
-            false
-        }
+        self.is_scalar() && matches!(self.code, 5 | 6)
     }
 
+    #[tactic(auto, unfolding(crate::specs::Types::is_unsigned))]
     pub fn is_unsigned(self) -> bool
         ensures { result ≡ is_unsigned self }
     {
-        let code = self.code;
-        if self.is_scalar() {
-            match code {
-                1 => false,
-                3 => false,
-                5 => false,
-                6 => false,
-                _ => true,
-            }
-        } else {
-            true
-        }
+        !(self.is_scalar() && matches!(self.code, 1 | 3 | 5 | 6))
     }
 
+    #[tactic(auto, unfolding(crate::specs::Types::elf_size))]
     pub fn to_elf_size(self) -> Size
         ensures { result ≡ elf_size self }
     {
-        let code = self.code;
-        if self.is_scalar() {
-            let width = element_width(code);
-            match width {
-                1 => Size::U8,
-                4 => Size::U32,
-                8 => Size::U64,
-                _ => Size::NoSize,
-            }
-        } else {
-            Size::U64
+        if !self.is_scalar() {
+            return Size::U64;
+        }
+        match element_width(self.code) {
+            1 => Size::U8,
+            4 => Size::U32,
+            8 => Size::U64,
+            _ => Size::NoSize,
         }
     }
 }
 
 impl Operand {
+    #[tactic(auto, unfolding(crate::specs::Types::operand_size))]
     pub fn size(self) -> Size
         ensures { result ≡ operand_size self }
     {
         match self {
-            Operand::Var(v) => {
-                let ty = v.ty;
-                ty.to_elf_size()
-            }
+            Operand::Var(v) => v.ty.to_elf_size(),
             Operand::Int(_, short, _) => { if short { Size::U32 } else { Size::U64 } }
             Operand::Float(_) => Size::U64,
             Operand::Bool(_) => Size::U8,
