@@ -4,11 +4,6 @@ use Rattle.ir.specs.Types.{Result, ok, refused, ◌>>=◌}
 use Rattle.codegen.specs.Context.{Context}
 use Rattle.codegen.specs.Utils.{var_size, convert_var}
 use Rattle.utils.specs.declared.slots.Slot.{Slot}
-use Rattle.utils.specs.declared.slots.SlotResult.{SlotResult}
-
-abbrev pub slot_says : SlotResult → Result Slot
-slot_says (SlotResult.Is t) = ok t
-slot_says (SlotResult.Refused n) = refused n
 
 -- its slot, then its size
 abbrev pub look_slot : Context → VarId → Result Slot

@@ -1,13 +1,13 @@
 // A variable that is stored to has a slot and a size.
-ghost use Rattle.std.specs.Prelude.{◌≡◌, ◌+◌, ◌≤◌};
-ghost use Rattle.cells.specs.Cells.{cells};
-ghost use Rattle.ir.specs.Function.{var_at};
-ghost use Rattle.utils.specs.Answers.{lent};
-ghost use Rattle.utils.specs.Slots.{slot_says, look_slot};
+ghost use Rattle.std.specs.Prelude.{◌≡◌};
+ghost use Rattle.ir.specs.Answers.{says};
+ghost use Rattle.utils.specs.Answers.{held};
+ghost use Rattle.utils.specs.Slots.{look_slot};
 
-use crate::{OperandResult, SizeResult, convert_var, var_size};
+use crate::context::Context;
+use crate::{convert_var, var_size};
+use cells::refusals::Refusal;
 use ir::VarId;
-use ir::read::var_at;
 use x86::enums::{Operand, Size};
 
 #[derive(Clone, Copy)]
@@ -16,30 +16,11 @@ pub struct Slot {
     pub size: Size,
 }
 
-#[derive(Clone, Copy)]
-pub enum SlotResult {
-    Is(Slot),
-    Refused(u64),
-}
-
 // The slot is looked up before its size.
-pub fn look_slot(tables: &[u8], offsets: &[u64], v: VarId) -> SlotResult
-    ensures { slot_says result ≡ look_slot (lent tables.now offsets.now) v }
+pub fn look_slot(context: &Context, v: VarId) -> Result<Slot, Refusal>
+    ensures { says result ≡ look_slot (held context.now) v }
 {
-    let var = match convert_var(tables, offsets, v) {
-        OperandResult::Is(var) => var,
-        OperandResult::Refused(n) => return SlotResult::Refused(n),
-    };
-    match var_size(v) {
-        SizeResult::Is(size) => SlotResult::Is(Slot { var, size }),
-        SizeResult::Refused(n) => SlotResult::Refused(n),
-    }
-}
-
-// It does the same for the variable at a cell of the sheet.
-pub fn look_slot_at(tables: &[u8], offsets: &[u64], s: &[u8], k: usize) -> SlotResult
-    requires { k + 3 ≤ cells s.now }
-    ensures { slot_says result ≡ look_slot (lent tables.now offsets.now) (var_at s.now k) }
-{
-    look_slot(tables, offsets, var_at(s, k))
+    let var = convert_var(context, v)?;
+    let size = var_size(v)?;
+    Ok(Slot { var, size })
 }
