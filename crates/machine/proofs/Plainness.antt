@@ -14,14 +14,15 @@ use Rattle.ir.specs.declared.Operand.{Operand as IrOp}
 use Rattle.ir.specs.declared.Instr.{Instr}
 use Rattle.ir.specs.Types as types
 use Rattle.ir.specs.Types.{ok, no_array, is_scalar, element_width, bytes, type_size, is_float, is_unsigned, element_size, elf_size}
-use Rattle.ir.specs.Function.{Function, Line, BinaryOp, binary_op}
+use Rattle.ir.specs.Function.{Function, Line, binary_op}
 use Rattle.machine.specs.Word.{W}
 use Rattle.machine.specs.Steps as steps
-use Rattle.machine.specs.Steps.{width, is_signed_type, is_label}
+use Rattle.machine.specs.Steps.{width, is_signed_type, is_label, is_logical}
 use Rattle.machine.specs.Plain.{every, is_plain_code, is_plain_return, same_type, no_type, is_entry, is_scalar_var, is_plain_head, is_short, is_small, is_plain_operand, long_constant, is_bool_type, is_bool, is_one_byte, is_plain_binary, is_plain_cast, label_count, is_plain_instr, is_plain_line, is_plain_at, are_distinct}
 use Rattle.machine.specs.Frames.{size_of}
 use Rattle.machine.proofs.Tests.{both, not-true, four_cases}
 use Rattle.machine.proofs.Run.{cons_not_nil}
+use Rattle.ir.specs.declared.BinaryOp.{BinaryOp}
 
 -- ---- types
 
@@ -155,7 +156,7 @@ abbrev pub PlainInstr : Function → Instr → Type 0
 PlainInstr F (Instr.Copy d x) = Scalar F d × PlainOperand F x × (width x ≡ bytes d.ty)
 PlainInstr F (Instr.Unary d op x) = Scalar F d × PlainOperand F x × (width x ≡ bytes d.ty)
 PlainInstr F (Instr.Binary d op x y) =
-    Scalar F d × PlainOperand F x × PlainOperand F y × (width x ≡ width y) × PlainBinary (binary_op op) d x y × (2 ≤ op)
+    Scalar F d × PlainOperand F x × PlainOperand F y × (width x ≡ width y) × PlainBinary op d x y
 PlainInstr F (Instr.Cast d x) = Scalar F d × PlainOperand F x × (bytes d.ty < 8 → Long FourBytes x)
 PlainInstr F (Instr.Zero d) = Entry F d
 PlainInstr F (Instr.Call d f count) = ⊥
@@ -258,12 +259,26 @@ plain_binary op d x y = go op
     go BinaryOp.Div e = same e
     go BinaryOp.Rem e = let h = both (eqb (width x) (bytes d.ty)) (not (is_one_byte d)) e in (same h.0, wide d h.1)
 
--- the logical pair has the numbers 0 and 1
-not_logical : (op : ℕ) (d : VarId) (x y : IrOp) → PlainBinary (binary_op op) d x y → 2 ≤ op
-unfolding binary_op
-not_logical zero d x y h = absurd h
-not_logical (suc zero) d x y h = absurd h
-not_logical (suc (suc op)) d x y h = omega arith
+-- the logical pair is not plain
+pub not_logical : (op : BinaryOp) (d : VarId) (x y : IrOp) → PlainBinary op d x y → is_logical op ≡ false
+not_logical BinaryOp.Or d x y h = absurd h
+not_logical BinaryOp.And d x y h = absurd h
+not_logical BinaryOp.BitOr d x y h = refl
+not_logical BinaryOp.BitXor d x y h = refl
+not_logical BinaryOp.BitAnd d x y h = refl
+not_logical BinaryOp.Eq d x y h = refl
+not_logical BinaryOp.NotEq d x y h = refl
+not_logical BinaryOp.Lt d x y h = refl
+not_logical BinaryOp.Le d x y h = refl
+not_logical BinaryOp.Gt d x y h = refl
+not_logical BinaryOp.Ge d x y h = refl
+not_logical BinaryOp.Shl d x y h = refl
+not_logical BinaryOp.Shr d x y h = refl
+not_logical BinaryOp.Add d x y h = refl
+not_logical BinaryOp.Sub d x y h = refl
+not_logical BinaryOp.Mul d x y h = refl
+not_logical BinaryOp.Div d x y h = refl
+not_logical BinaryOp.Rem d x y h = refl
 
 stands : (l : ℕ) (ls : List Line) → 1 ≤ label_count l ls → steps.find l ls < length ls
 unfolding label_count steps.find
@@ -295,12 +310,12 @@ unfolding is_plain_instr
 plain_instr F before (Instr.Copy d x) e = plain_move F d x e
 plain_instr F before (Instr.Unary d op x) e = plain_move F d x e
 plain_instr F before (Instr.Binary d op x y) e =
-    let h = both (is_scalar_var F d) (is_plain_operand F x && (is_plain_operand F y && (eqb (width x) (width y) && is_plain_binary (binary_op op) d x y))) e in
-    let g = both (is_plain_operand F x) (is_plain_operand F y && (eqb (width x) (width y) && is_plain_binary (binary_op op) d x y)) h.1 in
-    let f = both (is_plain_operand F y) (eqb (width x) (width y) && is_plain_binary (binary_op op) d x y) g.1 in
-    let t = both (eqb (width x) (width y)) (is_plain_binary (binary_op op) d x y) f.1 in
-    let b : PlainBinary (binary_op op) d x y = plain_binary (binary_op op) d x y t.1 in
-    (plain_scalar F d h.0, plain_operand F x g.0, plain_operand F y f.0, eqb-true (width x) (width y) t.0, b, not_logical op d x y b)
+    let h = both (is_scalar_var F d) (is_plain_operand F x && (is_plain_operand F y && (eqb (width x) (width y) && is_plain_binary op d x y))) e in
+    let g = both (is_plain_operand F x) (is_plain_operand F y && (eqb (width x) (width y) && is_plain_binary op d x y)) h.1 in
+    let f = both (is_plain_operand F y) (eqb (width x) (width y) && is_plain_binary op d x y) g.1 in
+    let t = both (eqb (width x) (width y)) (is_plain_binary op d x y) f.1 in
+    let b : PlainBinary op d x y = plain_binary op d x y t.1 in
+    (plain_scalar F d h.0, plain_operand F x g.0, plain_operand F y f.0, eqb-true (width x) (width y) t.0, b)
 plain_instr F before (Instr.Cast d x) e =
     let h = both (is_scalar_var F d) (is_plain_operand F x && is_plain_cast d x) e in
     let g = both (is_plain_operand F x) (is_plain_cast d x) h.1 in (

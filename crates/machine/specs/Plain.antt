@@ -6,13 +6,15 @@ use Rattle.ir.specs.declared.«Type».{«Type» as IrType}
 use Rattle.ir.specs.declared.VarId.{VarId}
 use Rattle.ir.specs.declared.Operand.{Operand}
 use Rattle.ir.specs.declared.Instr.{Instr}
-use Rattle.layout.specs.declared.Checked.{Checked}
+use Rattle.std.specs.Prelude.{Ok, Err}
+use Rattle.layout.specs.Layout.{Checked}
 use Rattle.ir.specs.Types.{is_scalar, bytes}
-use Rattle.ir.specs.Function.{Function, Line, BinaryOp, binary_op, tables_of, function_of}
+use Rattle.ir.specs.Function.{Function, Line, tables_of, function_of}
 use Rattle.layout.specs.Layout.{tables_check, sheet_check}
 use Rattle.codegen.specs.Generation.{Outcome, accepted, refused, generate}
 use Rattle.machine.specs.Word.{W}
 use Rattle.machine.specs.Steps.{width, is_label}
+use Rattle.ir.specs.declared.BinaryOp.{BinaryOp}
 
 -- every element of a list passes a test
 unfoldable pub every : {A : Type 0} → (A → Bool) → List A → Bool
@@ -142,7 +144,7 @@ unfoldable pub is_plain_instr : Function → List Line → Instr → Bool
 is_plain_instr F before (Instr.Copy d x) = is_scalar_var F d && (is_plain_operand F x && eqb (width x) (bytes d.ty))
 is_plain_instr F before (Instr.Unary d op x) = is_scalar_var F d && (is_plain_operand F x && eqb (width x) (bytes d.ty))
 is_plain_instr F before (Instr.Binary d op x y) =
-    is_scalar_var F d && (is_plain_operand F x && (is_plain_operand F y && (eqb (width x) (width y) && is_plain_binary (binary_op op) d x y)))
+    is_scalar_var F d && (is_plain_operand F x && (is_plain_operand F y && (eqb (width x) (width y) && is_plain_binary op d x y)))
 is_plain_instr F before (Instr.Cast d x) = is_scalar_var F d && (is_plain_operand F x && is_plain_cast d x)
 is_plain_instr F before (Instr.Zero d) = is_entry F d
 is_plain_instr F before (Instr.Call d symbol count) = false
@@ -172,8 +174,8 @@ is_refused_at (refused n place) k = eqb place k
 
 -- what follows a layout that is right; refusals 1 to 3 give 0
 abbrev pub after_layout : Checked → ℕ → (Unit {0} → Bool) → Bool
-after_layout (Checked.Behind c) k rest = rest tt
-after_layout (Checked.Refused n cell) k rest = eqb k 0
+after_layout (Ok c) k rest = rest tt
+after_layout (Err r) k rest = eqb k 0
 
 -- whether a number is at fault
 unfoldable pub is_fault : List ℕ → List ℕ → ℕ → Bool

@@ -8,8 +8,9 @@ use Rattle.ir.specs.declared.Operand.{Operand}
 use Rattle.ir.specs.declared.UnaryOp.{UnaryOp}
 use Rattle.ir.specs.declared.Instr.{Instr}
 use Rattle.ir.specs.Types.{bytes}
-use Rattle.ir.specs.Function.{Function, Line, BinaryOp, binary_op}
+use Rattle.ir.specs.Function.{Function, Line}
 use Rattle.machine.specs.Word.{bound, byte, number, sign, widen, invert, arith_down, rank, differ, magnitude, negated, bit_and, bit_or, bit_xor}
+use Rattle.ir.specs.declared.BinaryOp.{BinaryOp}
 
 -- ---- operands
 
@@ -222,7 +223,7 @@ exec_binary F d op x y s =
 unfoldable pub exec : Function → Instr → State → State
 exec F (Instr.Copy d x) s = assign F d (value x s.vals) s
 exec F (Instr.Unary d op x) s = assign F d (unary op (width x) (value x s.vals)) s
-exec F (Instr.Binary d op x y) s = exec_binary F d (binary_op op) x y s
+exec F (Instr.Binary d op x y) s = exec_binary F d op x y s
 exec F (Instr.Cast d x) s = assign F d (cast (is_signed x) (width x) (bytes d.ty) (value x s.vals)) s
 exec F (Instr.Zero d) s = assign F d 0 s
 exec F (Instr.Call d symbol count) s = ended stuck s
@@ -244,11 +245,31 @@ is_meant (Operand.Address v) = false
 is_meant (Operand.DataAddress k) = false
 is_meant Operand.Null = true
 
+abbrev pub is_logical : BinaryOp → Bool
+is_logical BinaryOp.Or = true
+is_logical BinaryOp.And = true
+is_logical BinaryOp.BitOr = false
+is_logical BinaryOp.BitXor = false
+is_logical BinaryOp.BitAnd = false
+is_logical BinaryOp.Eq = false
+is_logical BinaryOp.NotEq = false
+is_logical BinaryOp.Lt = false
+is_logical BinaryOp.Le = false
+is_logical BinaryOp.Gt = false
+is_logical BinaryOp.Ge = false
+is_logical BinaryOp.Shl = false
+is_logical BinaryOp.Shr = false
+is_logical BinaryOp.Add = false
+is_logical BinaryOp.Sub = false
+is_logical BinaryOp.Mul = false
+is_logical BinaryOp.Div = false
+is_logical BinaryOp.Rem = false
+
 -- the logical pair, Or and And, has no meaning here
 abbrev pub has_meaning : Instr → Bool
 has_meaning (Instr.Copy d x) = is_meant x
 has_meaning (Instr.Unary d op x) = is_meant x
-has_meaning (Instr.Binary d op x y) = leb 2 op && (is_meant x && is_meant y)
+has_meaning (Instr.Binary d op x y) = not (is_logical op) && (is_meant x && is_meant y)
 has_meaning (Instr.Cast d x) = is_meant x
 has_meaning (Instr.Zero d) = true
 has_meaning (Instr.Call d symbol count) = false
