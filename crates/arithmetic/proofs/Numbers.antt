@@ -12,7 +12,7 @@ use Rattle.ir.specs.declared.VarId.{VarId}
 use Rattle.ir.specs.declared.Operand.{Operand as IrOp}
 use Rattle.ir.specs.declared.«Type».{«Type» as IrType}
 use Rattle.ir.specs.Types.{refused, is_unsigned}
-use Rattle.ir.specs.Function.{BinaryOp, binary_op, type_at, var_at}
+use Rattle.ir.specs.Function.{binary_op, type_at, var_at}
 use Rattle.x86.specs.declared.enums.ShiftOp.{ShiftOp}
 use Rattle.x86.specs.declared.enums.ConditionCode.{ConditionCode}
 use Rattle.x86.specs.Registers.{RDX}
@@ -20,6 +20,7 @@ use Rattle.codegen.specs.Context.{Context}
 use Rattle.codegen.specs.Arithmetic.{division, comparison, float_binary, integer_binary}
 use Rattle.operations.proofs.Looked.{dest_type}
 use Rattle.arithmetic.specs.Codes.{comparison_code}
+use Rattle.ir.specs.declared.BinaryOp.{BinaryOp}
 
 -- ---- some entries of a table, and what is behind all but its last
 

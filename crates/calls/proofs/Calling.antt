@@ -7,7 +7,7 @@ use native.Mathlib.Omega.{arith}
 use borrow.Author.Tests.{ne_eqb}
 use lib.ListN.{length, length-append}
 use Rattle.ir.specs.declared.Operand.{Operand as IrOp}
-use Rattle.ir.specs.declared.Dest.{Dest}
+use Rattle.std.specs.Prelude.{Option, Some, None}
 use Rattle.ir.specs.Types.{Result, ok, refused, ◌>>=◌}
 use Rattle.ir.specs.Function.{operands_at}
 use Rattle.x86.specs.declared.enums.Size.{Size}
@@ -24,10 +24,11 @@ use Rattle.utils.specs.Makes.{Makes, Ready, then}
 use Rattle.utils.proofs.Rows.{InRow, first_ready, first_stops, second_ready, second_stops, both_made}
 use Rattle.calls.specs.Calls.{stack_arguments, call_of, call_raised, call_symbol}
 use Rattle.ir.proofs.Sheet.{operands_length}
+use Rattle.ir.specs.declared.VarId.{VarId}
 
 -- ---- the parts
 
-in_parts : (ctx : Context) (dest : Dest) (symbol : ℕ) (args : List IrOp) {k : ℕ} → k ≡ length (excess floating 0 0 args)
+in_parts : (ctx : Context) (dest : Option VarId) (symbol : ℕ) (args : List IrOp) {k : ℕ} → k ≡ length (excess floating 0 0 args)
     → InRow (generate_call ctx dest symbol args) (stack_arguments ctx args) (then (load_arguments ctx 0 0 args) (call_symbol ctx dest symbol k))
 unfolding generate_call stack_arguments call_symbol
 in_parts ctx dest symbol args {k} e = rw e (record { is = go (push_arguments ctx 0 (excess floating 0 0 args)) (load_arguments ctx 0 0 args) (store_result ctx dest) })
@@ -50,7 +51,7 @@ pub stack_parts : (ctx : Context) (args : List IrOp) {k : ℕ} → k ≡ length 
 unfolding stack_arguments
 stack_parts ctx args e = rw e (record { is = refl })
 
-pub symbol_parts : (ctx : Context) (dest : Dest) (symbol k : ℕ) → InRow (call_symbol ctx dest symbol k) (ok (call_raised symbol k)) (store_result ctx dest)
+pub symbol_parts : (ctx : Context) (dest : Option VarId) (symbol k : ℕ) → InRow (call_symbol ctx dest symbol k) (ok (call_raised symbol k)) (store_result ctx dest)
 unfolding call_symbol
 symbol_parts ctx dest symbol k = record { is = refl }
 
@@ -107,16 +108,16 @@ module _ (s : List ℕ) (n from : ℕ) where
 pub few_raised : (symbol k : ℕ) → Yields (ok (call_raised symbol k)) (λ is. length is ≤ 2)
 few_raised symbol k = yields (omega (arith, stack_few BinOp.Add k))
 
-pub few_stored : (ctx : Context) (dest : Dest) → Yields (store_result ctx dest) (λ is. length is ≤ 1)
+pub few_stored : (ctx : Context) (dest : Option VarId) → Yields (store_result ctx dest) (λ is. length is ≤ 1)
 few_stored ctx dest = weaken (result_part ctx dest) (λ is p. p.few)
 
-pub few_called : (ctx : Context) (dest : Dest) (symbol k : ℕ) → Yields (call_symbol ctx dest symbol k) (λ is. length is ≤ 3)
+pub few_called : (ctx : Context) (dest : Option VarId) (symbol k : ℕ) → Yields (call_symbol ctx dest symbol k) (λ is. length is ≤ 3)
 unfolding call_symbol
 few_called ctx dest symbol k = then_few (few_raised symbol k) (few_stored ctx dest)
 
 -- ---- the three parts, made in turn
 
-module _ (ctx : Context) (dest : Dest) (symbol : ℕ) (args : List IrOp) (old : List ℕ) {k : ℕ} (e : k ≡ length (excess floating 0 0 args)) {writes : Bool} {at : ℕ}
+module _ (ctx : Context) (dest : Option VarId) (symbol : ℕ) (args : List IrOp) (old : List ℕ) {k : ℕ} (e : k ≡ length (excess floating 0 0 args)) {writes : Bool} {at : ℕ}
     (room : Ready writes (generate_call ctx dest symbol args) at (length old)) where
   parts : InRow (generate_call ctx dest symbol args) (stack_arguments ctx args) (then (load_arguments ctx 0 0 args) (call_symbol ctx dest symbol k))
   parts = in_parts ctx dest symbol args e

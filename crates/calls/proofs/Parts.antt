@@ -8,7 +8,7 @@ use Rattle.ir.specs.contracts.Operand as ir_operand
 use Rattle.ir.specs.contracts.Dest as ir_dest
 use Rattle.ir.specs.declared.Operand.{Operand as IrOp}
 use Rattle.ir.specs.declared.VarId.{VarId}
-use Rattle.ir.specs.declared.Dest.{Dest}
+use Rattle.std.specs.Prelude.{Option, Some, None}
 use Rattle.ir.specs.Types.{ok, is_float}
 use Rattle.x86.specs.declared.enums.Operand.{Operand}
 use Rattle.x86.specs.declared.enums.Instruction.{Instruction}
@@ -42,10 +42,10 @@ not_var (IrOp.Address v) h = refl
 not_var (IrOp.DataAddress k) h = refl
 not_var IrOp.Null h = refl
 
-pub not_kept : (ctx : Context) (dest : Dest) → OneOf (0 ∷ []) (tag_of ir_dest.the_type dest) → store_result ctx dest ≡ ok []
+pub not_kept : (ctx : Context) (dest : Option VarId) → OneOf (0 ∷ []) (tag_of ir_dest.the_type dest) → store_result ctx dest ≡ ok []
 unfolding store_result
-not_kept ctx Dest.Nothing h = refl
-not_kept ctx (Dest.Var v) h = absurd (miss (0 ∷ []) 1 tt h)
+not_kept ctx None h = refl
+not_kept ctx (Some v) h = absurd (miss (0 ∷ []) 1 tt h)
 
 -- ---- a result that is kept
 
@@ -53,6 +53,6 @@ pub result_by : (float : Bool) (t : Slot) → Instruction.Binary (store_of float
 result_by true t = refl
 result_by false t = refl
 
-pub kept_looked : (ctx : Context) (v : VarId) → store_result ctx (Dest.Var v) ≡ listed (look_slot ctx v) (λ t. result_of (is_float v.ty) t ∷ [])
+pub kept_looked : (ctx : Context) (v : VarId) → store_result ctx (Some v) ≡ listed (look_slot ctx v) (λ t. result_of (is_float v.ty) t ∷ [])
 unfolding store_result
 kept_looked ctx v = slot_looked ctx v (λ t. result_of (is_float v.ty) t ∷ [])

@@ -1,7 +1,7 @@
 -- Auxiliary: the parts of a call, one behind the other. `generateCall` is `stackArguments`, `loadArguments` and `callSymbol`, by `in_parts` (proofs/Calling);
 -- `pushArguments` is `pushOne` of each argument in excess, by `pushing` (proofs/Pushes), and `loadArguments` is `loadArgument` of each, by `turn` (proofs/Loads).
 use Rattle.std.specs.Prelude.{ℕ, ◌*◌, Bool, true, false, cond, List, [], ◌∷◌, length}
-use Rattle.ir.specs.declared.Dest.{Dest}
+use Rattle.std.specs.Prelude.{Option, Some, None}
 use Rattle.ir.specs.declared.Operand.{Operand as IrOp}
 use Rattle.ir.specs.Types.{Result, ok}
 use Rattle.x86.specs.declared.enums.Size.{Size}
@@ -17,6 +17,7 @@ use Rattle.codegen.specs.declared.registers.Taken.{Taken}
 use Rattle.utils.specs.declared.slots.Slot.{Slot}
 use Rattle.utils.specs.Makes.{alone, then}
 use Rattle.codegen.specs.Excess.{is_beyond}
+use Rattle.ir.specs.declared.VarId.{VarId}
 
 -- whether an argument is a float constant
 abbrev pub is_float_constant : IrOp → Bool
@@ -65,5 +66,5 @@ abbrev pub result_of : Bool → Slot → Instruction
 result_of float t = cond float (Instruction.Binary BinOp.StoreF t.var (Operand.Reg (xmm 0)) t.size) (move t.var (Operand.Reg RAX) t.size)
 
 -- the call, and the store of its result
-unfoldable pub call_symbol : Context → Dest → ℕ → ℕ → Result (List Instruction)
+unfoldable pub call_symbol : Context → Option VarId → ℕ → ℕ → Result (List Instruction)
 call_symbol ctx dest symbol k = then (ok (call_raised symbol k)) (store_result ctx dest)

@@ -10,10 +10,10 @@ use Rattle.ir.specs.declared.«Type».{«Type» as IrType}
 use Rattle.ir.specs.declared.VarId.{VarId}
 use Rattle.ir.specs.declared.Operand.{Operand as IrOp}
 use Rattle.ir.specs.declared.UnaryOp.{UnaryOp as IrUnary}
-use Rattle.ir.specs.declared.Dest.{Dest}
+use Rattle.std.specs.Prelude.{Option, Some, None}
 use Rattle.ir.specs.declared.Instr.{Instr}
 use Rattle.ir.specs.Types.{Result, ok, refused, ◌>>=◌, type_size, is_float, is_unsigned, element_width}
-use Rattle.ir.specs.Function.{BinaryOp, binary_op}
+use Rattle.ir.specs.Function.{binary_op}
 use Rattle.x86.specs.declared.register.Register.{Register}
 use Rattle.x86.specs.declared.enums.Size.{Size}
 use Rattle.x86.specs.declared.enums.Operand.{Operand}
@@ -35,6 +35,7 @@ use Rattle.codegen.specs.Arithmetic.{simple_operation, float_operation, two_load
 use Rattle.codegen.specs.Frame.{store_of}
 use Rattle.codegen.specs.Generation.{generate_instr}
 use Rattle.codegen.proofs.Results.{Closed, gives, Slips, fine, slip, look, found, implies, either}
+use Rattle.ir.specs.declared.BinaryOp.{BinaryOp}
 
 -- ---- copies and casts
 
@@ -108,7 +109,7 @@ pub data Lowers (ctx : Context) (labels : ℕ) (ret : IrType) : Instr → List I
   unary : {d : VarId} {op : IrUnary} {x : IrOp} {args : List IrOp} {z : Size} {load : Instruction} {var : Operand} → var_size d ≡ ok z
       → load_operand ctx RAX x z ≡ ok load → convert_var ctx d ≡ ok var
       → Lowers ctx labels ret (Instr.Unary d op x) args (load ∷ unary_records op (is_float d.ty) z ++ move var (Operand.Reg RAX) z ∷ [])
-  binary : {d : VarId} {op : ℕ} {x y : IrOp} {args : List IrOp} {b : List Instruction} → Operates ctx d (binary_op op) x y b
+  binary : {d : VarId} {op : BinaryOp} {x y : IrOp} {args : List IrOp} {b : List Instruction} → Operates ctx d op x y b
       → Lowers ctx labels ret (Instr.Binary d op x y) args b
   cast_copied : {d : VarId} {x : IrOp} {args : List IrOp} {k : Kind} {n : ℕ} {b : List Instruction} → operand_kind ctx x ≡ ok k → type_size d.ty ≡ ok n
       → is_copy k (is_float d.ty) n ≡ true → Copies ctx d x b → Lowers ctx labels ret (Instr.Cast d x) args b
@@ -120,7 +121,7 @@ pub data Lowers (ctx : Context) (labels : ℕ) (ret : IrType) : Instr → List I
   zeroed : {d : VarId} {args : List IrOp} {n : ℕ} {var : Operand} → type_size d.ty ≡ ok n → convert_var ctx d ≡ ok var
       → Lowers ctx labels ret (Instr.Zero d) args (Instruction.Lea var RDI Size.NoSize ∷ move (Operand.Reg RCX) (Operand.Imm n) Size.U64
       ∷ move (Operand.Reg RAX) (Operand.Imm 0) Size.U64 ∷ Instruction.Prefix Prefix.Rep StringOp.Stos Size.U8 ∷ [])
-  called : {d : Dest} {f count : ℕ} {args : List IrOp} {b : List Instruction} → generate_call ctx d f args ≡ ok b
+  called : {d : Option VarId} {f count : ℕ} {args : List IrOp} {b : List Instruction} → generate_call ctx d f args ≡ ok b
       → Lowers ctx labels ret (Instr.Call d f count) args b
   labelled : {l k : ℕ} {args : List IrOp} → label_at labels l ≡ ok k → Lowers ctx labels ret (Instr.Label l) args (Instruction.Label k ∷ [])
   jump : {l k : ℕ} {args : List IrOp} → label_at labels l ≡ ok k → Lowers ctx labels ret (Instr.Jump l) args (Instruction.Ctrl CtrlOp.Jmp (Operand.Label k) ∷ [])
@@ -214,12 +215,12 @@ module _ (ctx : Context) where
   pushes j [] = fine
   pushes j (x ∷ xs) = look (load RAX x Size.NoSize) (λ a p. look (pushes (suc j) xs) (λ l q. fine))
 
-  result : (d : Dest) → Slips (store_result ctx d)
+  result : (d : Option VarId) → Slips (store_result ctx d)
   unfolding store_result
-  result Dest.Nothing = fine
-  result (Dest.Var v) = look (var v) (λ y p. look (var_size_lem v) (λ z q. fine))
+  result None = fine
+  result (Some v) = look (var v) (λ y p. look (var_size_lem v) (λ z q. fine))
 
-  call : (d : Dest) (f : ℕ) (xs : List IrOp) → Slips (generate_call ctx d f xs)
+  call : (d : Option VarId) (f : ℕ) (xs : List IrOp) → Slips (generate_call ctx d f xs)
   unfolding generate_call
   call d f xs = look (pushes 0 (excess floating 0 0 xs)) (λ p _. look (loads 0 0 xs) (λ l _. look (result d) (λ s _. fine)))
 
@@ -307,7 +308,7 @@ module _ (ctx : Context) where
   unfolding generate_instr generate_unary generate_cast generate_zero generate_label generate_jump generate_jmp_if_not generate_return
   lowers labels ret (Instr.Copy d x) args = implies (copy d x) (λ b h. copied h)
   lowers labels ret (Instr.Unary d op x) args = look (var_size_lem d) (λ z p. look (load RAX x z) (λ i q. look (var d) (λ v r. gives (unary p q r))))
-  lowers labels ret (Instr.Binary d op x y) args = implies (operates d (binary_op op) x y) (λ b h. binary h)
+  lowers labels ret (Instr.Binary d op x y) args = implies (operates d op x y) (λ b h. binary h)
   lowers labels ret (Instr.Cast d x) args =
       look (kind x) (λ k p. look (type_size_lem d.ty) (λ n q. either (is_copy k (is_float d.ty) n) (λ e. implies (copy d x) (λ b h. cast_copied p q e h))
       (λ e. either (not (is_float d.ty) && is_unsigned_short x)

@@ -11,10 +11,9 @@ use Rattle.ir.specs.declared.«Type».{«Type» as IrType}
 use Rattle.ir.specs.declared.VarId.{VarId}
 use Rattle.ir.specs.declared.Operand.{Operand as IrOp}
 use Rattle.ir.specs.declared.UnaryOp.{UnaryOp as IrUnary}
-use Rattle.ir.specs.declared.Dest.{Dest}
+use Rattle.std.specs.Prelude.{Option, Some, None}
 use Rattle.ir.specs.declared.Instr.{Instr}
 use Rattle.ir.specs.Types.{ok, ◌>>=◌, is_float}
-use Rattle.ir.specs.Function.{BinaryOp}
 use Rattle.x86.specs.declared.register.Register.{Register}
 use Rattle.x86.specs.declared.enums.Size.{Size}
 use Rattle.x86.specs.declared.enums.Operand.{Operand}
@@ -34,6 +33,7 @@ use Rattle.codegen.specs.Generation.{generate_instr, is_ret, ends_in_ret}
 use Rattle.codegen.specs.Bounds.{most_records, most_in_prologue}
 use Rattle.codegen.proofs.Results.{Yields, yields, any, bind, weaken, choose, implies, values}
 use Rattle.codegen.proofs.Lowers.{copies, zero_extends_lem, Converts, conversion, extension, Works, quotient, remainder, product, shifted, Sides, words, floats, swapped, Operates, one_load_lem, two_loads_lem, compares, Lowers, copied, unary, binary, cast_copied, cast_short, cast, zeroed, called, labelled, jump, branch, returned, comment, lowers}
+use Rattle.ir.specs.declared.BinaryOp.{BinaryOp}
 
 -- ---- lists
 
@@ -156,10 +156,10 @@ stack_few op k = go (eqb k 0)
     go true = lit≤ tt
     go false = lit≤ tt
 
-pub result_part : (ctx : Context) (dest : Dest) → Yields (store_result ctx dest) (Part 1 false)
+pub result_part : (ctx : Context) (dest : Option VarId) → Yields (store_result ctx dest) (Part 1 false)
 unfolding store_result ends_in_ret
-result_part ctx Dest.Nothing = yields (record { few = lit≤ tt; last = refl })
-result_part ctx (Dest.Var v) =
+result_part ctx None = yields (record { few = lit≤ tt; last = refl })
+result_part ctx (Some v) =
     bind (any (convert_var ctx v)) (λ var p. bind (any (var_size v)) (λ size q. yields (go var size (is_float v.ty))))
   where
     go : (var : Operand) (size : Size) (b : Bool) →
@@ -167,7 +167,7 @@ result_part ctx (Dest.Var v) =
     go var size true = record { few = lit≤ tt; last = refl }
     go var size false = record { few = lit≤ tt; last = refl }
 
-call_part : (ctx : Context) (dest : Dest) (symbol : ℕ) (args : List IrOp) → Yields (generate_call ctx dest symbol args) (Part (most_records (length args)) false)
+call_part : (ctx : Context) (dest : Option VarId) (symbol : ℕ) (args : List IrOp) → Yields (generate_call ctx dest symbol args) (Part (most_records (length args)) false)
 unfolding generate_call ends_in_ret
 call_part ctx dest symbol args =
     bind (pushes_few ctx 0 (excess floating 0 0 args)) (λ pushes o.

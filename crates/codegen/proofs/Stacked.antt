@@ -6,7 +6,7 @@ use mathlib.Core.Bool.{false}
 use mathlib.Core.List.{[], ◌∷◌}
 use Rattle.ir.specs.declared.VarId.{VarId}
 use Rattle.ir.specs.declared.Operand.{Operand as IrOp}
-use Rattle.ir.specs.declared.Dest.{Dest}
+use Rattle.std.specs.Prelude.{Option, Some, None}
 use Rattle.ir.specs.Types.{ok, refused, no_array, type_size, is_float, element_width, bytes, operand_size, elf_size}
 use Rattle.ir.specs.Function.{Tables}
 use Rattle.x86.specs.declared.enums.Size.{Size}
@@ -38,7 +38,7 @@ abbrev slot : ℕ → Operand
 slot n = rbp_plus (minus n)
 
 nine_longs :
-    generate_call (context_of tables (8 ∷ [])) (Dest.Var (variable 0 1)) 5
+    generate_call (context_of tables (8 ∷ [])) (Some (variable 0 1)) 5
     (constant 1 ∷ constant 2 ∷ constant 3 ∷ constant 4 ∷ constant 5 ∷ constant 6 ∷ constant 7 ∷ IrOp.Var (variable 0 1) ∷ constant 9 ∷ [])
     ≡ ok
     (Instruction.Binary BinOp.Sub (Operand.Reg RSP) (Operand.Imm 32) Size.NoSize ∷ move (Operand.Reg RAX) (Operand.Imm 7) Size.U64

@@ -6,7 +6,6 @@ use Rattle.ir.specs.declared.VarId.{VarId}
 use Rattle.ir.specs.declared.Operand.{Operand as IrOp}
 use Rattle.ir.specs.declared.UnaryOp.{UnaryOp as IrUnary}
 use Rattle.ir.specs.Types.{Result, ok, refused, ◌>>=◌, is_float, is_unsigned}
-use Rattle.ir.specs.Function.{BinaryOp}
 use Rattle.x86.specs.declared.register.Register.{Register}
 use Rattle.x86.specs.declared.enums.Size.{Size}
 use Rattle.x86.specs.declared.enums.Operand.{Operand}
@@ -22,6 +21,7 @@ use Rattle.x86.specs.Decode.{condition_of}
 use Rattle.codegen.specs.Context.{Context}
 use Rattle.codegen.specs.Utils.{size_from, var_size, convert_var, convert_operand, load_operand}
 use Rattle.codegen.specs.Instructions.{move, operand_kind}
+use Rattle.ir.specs.declared.BinaryOp.{BinaryOp}
 
 -- `mov rax, left ; op rax, right ; mov [dest], rax`
 unfoldable pub simple_operation : Context → VarId → IrOp → IrOp → BinOp → Result (List Instruction)

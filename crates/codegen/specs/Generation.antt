@@ -8,7 +8,7 @@ use Rattle.ir.specs.declared.Operand.{Operand as IrOp}
 use Rattle.layout.specs.declared.Checked.{Checked}
 use Rattle.ir.specs.Types as types
 use Rattle.ir.specs.Types.{Result, ok}
-use Rattle.ir.specs.Function.{Tables, Function, Line, binary_op, tables_of, function_of}
+use Rattle.ir.specs.Function.{Tables, Function, Line, tables_of, function_of}
 use Rattle.layout.specs.Layout.{tables_check, sheet_check}
 use Rattle.x86.specs.declared.enums.CtrlOp.{CtrlOp}
 use Rattle.x86.specs.declared.enums.Instruction.{Instruction}
@@ -30,7 +30,7 @@ at place (types.refused n) = refused n place
 unfoldable pub generate_instr : Context → ℕ → IrType → Instr → List IrOp → Result (List Instruction)
 generate_instr ctx labels ret (Instr.Copy dest src) args = generate_copy ctx dest src
 generate_instr ctx labels ret (Instr.Unary dest op src) args = generate_unary ctx dest op src
-generate_instr ctx labels ret (Instr.Binary dest op left right) args = generate_binary ctx dest (binary_op op) left right
+generate_instr ctx labels ret (Instr.Binary dest op left right) args = generate_binary ctx dest op left right
 generate_instr ctx labels ret (Instr.Cast dest src) args = generate_cast ctx dest src
 generate_instr ctx labels ret (Instr.Zero dest) args = generate_zero ctx dest
 generate_instr ctx labels ret (Instr.Call dest symbol count) args = generate_call ctx dest symbol args

@@ -4,7 +4,7 @@ use Rattle.std.specs.Bool.{beq}
 use Rattle.ir.specs.declared.«Type».{«Type» as IrType}
 use Rattle.ir.specs.declared.VarId.{VarId}
 use Rattle.ir.specs.declared.Operand.{Operand as IrOp}
-use Rattle.ir.specs.declared.Dest.{Dest}
+use Rattle.std.specs.Prelude.{Option, Some, None}
 use Rattle.ir.specs.Types.{Result, ok, ◌>>=◌, is_scalar, type_size, is_float, is_unsigned}
 use Rattle.x86.specs.declared.register.Register.{Register}
 use Rattle.x86.specs.declared.enums.Size.{Size}
@@ -224,15 +224,15 @@ abbrev pub move_stack : BinOp → ℕ → List Instruction
 move_stack op k = cond (eqb k 0) [] (Instruction.Binary op (Operand.Reg RSP) (Operand.Imm (call_area k)) Size.NoSize ∷ [])
 
 -- the result is stored from XMM0 or RAX, if it is kept
-unfoldable pub store_result : Context → Dest → Result (List Instruction)
-store_result ctx Dest.Nothing = ok []
-store_result ctx (Dest.Var v) = do
+unfoldable pub store_result : Context → Option VarId → Result (List Instruction)
+store_result ctx None = ok []
+store_result ctx (Some v) = do
   var ← convert_var ctx v
   size ← var_size v
   ok (cond (is_float v.ty) (Instruction.Binary BinOp.StoreF var (Operand.Reg (xmm 0)) size) (move var (Operand.Reg RAX) size) ∷ [])
 
 -- RSP is lowered, the arguments in excess are put in its area, the others into registers; behind the Call RSP is raised again
-unfoldable pub generate_call : Context → Dest → ℕ → List IrOp → Result (List Instruction)
+unfoldable pub generate_call : Context → Option VarId → ℕ → List IrOp → Result (List Instruction)
 generate_call ctx dest symbol args = do
   pushes ← push_arguments ctx 0 (excess floating 0 0 args)
   loads ← load_arguments ctx 0 0 args

@@ -8,6 +8,15 @@ ghost use Rattle.codegen.specs.Excess.{is_beyond, behind_one};
 
 use x86::register::Register;
 
+const PARAM_REGS: [Register; 6] = [
+    Register::RDI,
+    Register::RSI,
+    Register::RDX,
+    Register::RCX,
+    Register::R8,
+    Register::R9,
+];
+
 // The parameter of rank `k` among those that are floats, or among those that are not, has this register.
 pub fn param_register(float: bool, k: u64) -> Register
     requires { k < length (registers_of float) }
@@ -16,14 +25,7 @@ pub fn param_register(float: bool, k: u64) -> Register
     if float {
         return Register::xmm(k);
     }
-    match k {
-        0 => Register::RDI,
-        1 => Register::RSI,
-        2 => Register::RDX,
-        3 => Register::RCX,
-        // R8 and R9 are left; a match on a u64 has to take all ranks above too.
-        4.. => Register::gpr(k + 4),
-    }
+    PARAM_REGS[k as usize]
 }
 
 // So many registers there are for them.
@@ -78,22 +80,19 @@ impl Taken {
     {
         if self.is_beyond(float) {
             return Taken {
-                words: self.words,
-                floats: self.floats,
                 stack: self.stack + 1,
+                ..self
             };
         }
         if float {
             return Taken {
-                words: self.words,
                 floats: self.floats + 1,
-                stack: self.stack,
+                ..self
             };
         }
         Taken {
             words: self.words + 1,
-            floats: self.floats,
-            stack: self.stack,
+            ..self
         }
     }
 }

@@ -9,15 +9,8 @@ pub fn is_unsigned_short(op: IrOp) -> bool
     ensures { result ≡ is_unsigned_short op }
 {
     match op {
-        IrOp::Var(v) => {
-            let ty = v.ty;
-            if ty.is_scalar() { ty.code == 4 } else { false }
-        }
-        IrOp::Int(_, short, unsigned) => { if short { unsigned } else { false } }
-        IrOp::Float(_) => false,
-        IrOp::Bool(_) => false,
-        IrOp::Address(_) => false,
-        IrOp::DataAddress(_) => false,
-        IrOp::Null => false,
+        IrOp::Var(v) => v.ty.is_scalar() && v.ty.code == 4,
+        IrOp::Int(_, short, unsigned) => short && unsigned,
+        _ => false,
     }
 }

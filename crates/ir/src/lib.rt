@@ -2,6 +2,7 @@
 // them in cells. Krc's `String`, `Vec` and `Box` are cells here: a text is its number, a nested array one element code and the product of the counts.
 #![tactic(auto)]
 
+pub mod lines;
 pub mod read;
 pub mod types;
 

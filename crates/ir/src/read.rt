@@ -1,8 +1,10 @@
 // The parts of a sheet are read at the number of their first cell. The sheet has the cells: whoever calls has checked its layout.
 ghost use Rattle.std.specs.Prelude.{◌≡◌, ◌+◌, ◌≤◌, eqb};
 ghost use Rattle.cells.specs.Cells.{cells, cell_at};
+ghost use Rattle.ir.specs.Lines.{kind_of, operation_of, dest_of, left_of, right_of};
 ghost use Rattle.ir.specs.Function.{type_at, var_at, operand_at, dest_at, instr_at, behind, body_from, entry_at, params_from};
 
+use crate::lines::Line;
 use crate::{BinaryOp, Instr, Operand, Type, UnaryOp, VarId};
 use cells::cell_at;
 
@@ -143,41 +145,33 @@ impl<'a> Sheet<'a> {
     }
 }
 
-// An instruction of a sheet begins at this cell, and the sheet has its thirteen cells.
-#[derive(Clone, Copy)]
-pub struct Line<'a> {
-    pub sheet: &'a [u8],
-    pub at: usize,
-    ghost whole: { at + 13 ≤ cells sheet.now },
-}
-
 impl<'a> Line<'a> {
     pub fn kind(&self) -> u64
-        ensures { result ≡ cell_at self.now.sheet.now self.now.at }
+        ensures { result ≡ kind_of self.now }
     {
         cell_at(self.sheet, self.at)
     }
 
     pub fn operation(&self) -> u64
-        ensures { result ≡ cell_at self.now.sheet.now (self.now.at + 1) }
+        ensures { result ≡ operation_of self.now }
     {
         cell_at(self.sheet, self.at + 1)
     }
 
     pub fn dest(&self) -> VarId
-        ensures { result ≡ var_at self.now.sheet.now (self.now.at + 2) }
+        ensures { result ≡ dest_of self.now }
     {
         var_at(self.sheet, self.at + 2)
     }
 
     pub fn left(&self) -> Operand
-        ensures { result ≡ operand_at self.now.sheet.now (self.now.at + 5) }
+        ensures { result ≡ left_of self.now }
     {
         operand_at(self.sheet, self.at + 5)
     }
 
     pub fn right(&self) -> Operand
-        ensures { result ≡ operand_at self.now.sheet.now (self.now.at + 9) }
+        ensures { result ≡ right_of self.now }
     {
         operand_at(self.sheet, self.at + 9)
     }

@@ -6,14 +6,12 @@ use mathlib.Core.List.{List}
 use native.Mathlib.Omega.{arith}
 use borrow.Author.Tests.{eqb-true, leb-true, lt-leb}
 use lib.Dec.{eqb, leb}
-use Rattle.cells.specs.Cells.{read_within, bind_cell}
-use Rattle.cells.specs.declared.Cell.{Cell}
+use Rattle.std.specs.Prelude.{Ok, Err}
+use Rattle.cells.specs.Cells.{Cell, read_within, bind_cell}
 use Rattle.cells.specs.declared.Cursor.{Cursor}
-use Rattle.cells.specs.Refusals.{torn_sheet}
-use Rattle.layout.specs.declared.Checked.{Checked}
+use Rattle.cells.specs.declared.refusals.Refusal.{Refusal}
 use Rattle.layout.specs.declared.Edition.{Edition}
-use Rattle.layout.specs.declared.Limited.{Limited}
-use Rattle.layout.specs.Layout.{bind_limited, bind_checked, zeros_check, operand_in, operands_in, has_left, side_in, call_check, body_in}
+use Rattle.layout.specs.Layout.{Checked, Limited, refuse, bind_limited, bind_checked, zeros_check, operand_in, operands_in, has_left, side_in, call_check, body_in}
 use Rattle.layout.specs.Sides.{sides_of, unused_of}
 
 -- a kind that is none of three
@@ -25,64 +23,64 @@ no_label k a b c = go (leb 6 k) refl
     go false p = refl
 
 -- nothing follows
-last_one : (x : Checked) → bind_checked Checked.Refused x (λ c. Checked.Behind c) ≡ x
-last_one (Checked.Behind c) = refl
-last_one (Checked.Refused n k) = refl
+last_one : (x : Checked) → bind_checked Err x (λ c. Ok c) ≡ x
+last_one (Ok c) = refl
+last_one (Err r) = refl
 
 -- one part and another, then a third
 in_order : (x : Checked) (f g : Cursor → Checked) →
-    bind_checked Checked.Refused (bind_checked Checked.Refused x f) g ≡ bind_checked Checked.Refused x (λ c. bind_checked Checked.Refused (f c) g)
-in_order (Checked.Behind c) f g = refl
-in_order (Checked.Refused n k) f g = refl
+    bind_checked Err (bind_checked Err x f) g ≡ bind_checked Err x (λ c. bind_checked Err (f c) g)
+in_order (Ok c) f g = refl
+in_order (Err r) f g = refl
 
-alike : (x : Checked) {f g : Cursor → Checked} → ((c : Cursor) → f c ≡ g c) → bind_checked Checked.Refused x f ≡ bind_checked Checked.Refused x g
-alike (Checked.Behind c) e = e c
-alike (Checked.Refused n k) e = refl
+alike : (x : Checked) {f g : Cursor → Checked} → ((c : Cursor) → f c ≡ g c) → bind_checked Err x f ≡ bind_checked Err x g
+alike (Ok c) e = e c
+alike (Err r) e = refl
 
 -- m unused cells, and n behind them
-zeros_both : (s : List ℕ) (m n : ℕ) (c : Cursor) → bind_checked Checked.Refused (zeros_check s m c) (λ d. zeros_check s n d) ≡ zeros_check s (m + n) c
+zeros_both : (s : List ℕ) (m n : ℕ) (c : Cursor) → bind_checked Err (zeros_check s m c) (λ d. zeros_check s n d) ≡ zeros_check s (m + n) c
 unfolding zeros_check
 zeros_both s zero n c = let l : 0 + n ≡ n = omega arith in rw l
 zeros_both s (suc m) n c =
     let l : suc m + n ≡ suc (m + n) = omega arith in
     rw l (go (λ d. zeros_both s m n d) (read_within s c 0 0))
   where
-    go : ((d : Cursor) → bind_checked Checked.Refused (zeros_check s m d) (λ e. zeros_check s n e) ≡ zeros_check s (m + n) d) → (x : Cell) →
-        bind_checked Checked.Refused (bind_cell (Checked.Refused torn_sheet) x (λ v d. zeros_check s m d)) (λ d. zeros_check s n d)
-        ≡ bind_cell (Checked.Refused torn_sheet) x (λ v d. zeros_check s (m + n) d)
-    go f (Cell.Word v d) = f d
-    go f (Cell.Wrong k) = refl
+    go : ((d : Cursor) → bind_checked Err (zeros_check s m d) (λ e. zeros_check s n e) ≡ zeros_check s (m + n) d) → (x : Cell) →
+        bind_checked Err (bind_cell (refuse Refusal.TornSheet) x (λ v d. zeros_check s m d)) (λ d. zeros_check s n d)
+        ≡ bind_cell (refuse Refusal.TornSheet) x (λ v d. zeros_check s (m + n) d)
+    go f (Ok x) = f x.1
+    go f (Err w) = refl
 
 module _ (E : Edition) (s : List ℕ) (c : Cursor) where
   -- both are operands, left is one, or none is
   two_operands :
-      bind_checked Checked.Refused (operand_in E s c) (λ d. operand_in E s d)
-      ≡ bind_checked Checked.Refused (operands_in E s 2 c) (λ d. zeros_check s 0 d)
+      bind_checked Err (operand_in E s c) (λ d. operand_in E s d)
+      ≡ bind_checked Err (operands_in E s 2 c) (λ d. zeros_check s 0 d)
   unfolding operands_in zeros_check
   two_operands = sym (last_one _ ∙ alike (operand_in E s c) (λ d. last_one (operand_in E s d)))
 
   one_operand :
-      bind_checked Checked.Refused (operand_in E s c) (λ d. zeros_check s 4 d)
-      ≡ bind_checked Checked.Refused (operands_in E s 1 c) (λ d. zeros_check s 4 d)
+      bind_checked Err (operand_in E s c) (λ d. zeros_check s 4 d)
+      ≡ bind_checked Err (operands_in E s 1 c) (λ d. zeros_check s 4 d)
   unfolding operands_in
-  one_operand = ap (λ (x : Checked). bind_checked Checked.Refused x (λ d. zeros_check s 4 d)) (sym (last_one (operand_in E s c)))
+  one_operand = ap (λ (x : Checked). bind_checked Err x (λ d. zeros_check s 4 d)) (sym (last_one (operand_in E s c)))
 
   no_operand :
-      bind_checked Checked.Refused (zeros_check s 4 c) (λ d. zeros_check s 4 d)
-      ≡ bind_checked Checked.Refused (operands_in E s 0 c) (λ d. zeros_check s 8 d)
+      bind_checked Err (zeros_check s 4 c) (λ d. zeros_check s 4 d)
+      ≡ bind_checked Err (operands_in E s 0 c) (λ d. zeros_check s 8 d)
   unfolding operands_in
   no_operand = zeros_both s 4 4 c
 
   -- of any kind
   two_sides : (kind : ℕ) →
-      bind_checked Checked.Refused (side_in E s (has_left kind) c) (λ d. side_in E s (eqb kind 2) d)
-      ≡ bind_checked Checked.Refused (operands_in E s (sides_of kind) c) (λ d. zeros_check s (8 - 4 * sides_of kind) d)
+      bind_checked Err (side_in E s (has_left kind) c) (λ d. side_in E s (eqb kind 2) d)
+      ≡ bind_checked Err (operands_in E s (sides_of kind) c) (λ d. zeros_check s (8 - 4 * sides_of kind) d)
   unfolding side_in
   two_sides kind = go (eqb kind 2) (has_left kind) (λ e. let l = eqb-true kind 2 e in rw l)
     where
       go : (both left : Bool) → (both ≡ true → left ≡ true) →
-          bind_checked Checked.Refused (cond left (operand_in E s c) (zeros_check s 4 c)) (λ d. cond both (operand_in E s d) (zeros_check s 4 d))
-          ≡ bind_checked Checked.Refused (operands_in E s (cond both 2 (cond left 1 0)) c) (λ d. zeros_check s (8 - 4 * cond both 2 (cond left 1 0)) d)
+          bind_checked Err (cond left (operand_in E s c) (zeros_check s 4 c)) (λ d. cond both (operand_in E s d) (zeros_check s 4 d))
+          ≡ bind_checked Err (operands_in E s (cond both 2 (cond left 1 0)) c) (λ d. zeros_check s (8 - 4 * cond both 2 (cond left 1 0)) d)
       go true left h = rw (h refl) two_operands
       go false true h = one_operand
       go false false h = no_operand
@@ -90,21 +88,21 @@ module _ (E : Edition) (s : List ℕ) (c : Cursor) where
   -- a call's arguments among them
   pub one_list : (kind : ℕ) →
       body_in E s kind c
-      ≡ bind_limited Checked.Refused (cond (eqb kind 5) (call_check s c) (Limited.Word (sides_of kind) c))
-      (λ n d. bind_checked Checked.Refused (operands_in E s n d) (λ e. zeros_check s (unused_of kind) e))
+      ≡ bind_limited Err (cond (eqb kind 5) (call_check s c) (Ok (sides_of kind, c)))
+      (λ n d. bind_checked Err (operands_in E s n d) (λ e. zeros_check s (unused_of kind) e))
   unfolding body_in zeros_check
   one_list kind = go (eqb kind 5)
     where
       arguments : (x : Limited) →
-          bind_limited Checked.Refused x (λ n d. operands_in E s n d)
-          ≡ bind_limited Checked.Refused x (λ n d. bind_checked Checked.Refused (operands_in E s n d) (λ e. Checked.Behind e))
-      arguments (Limited.Word n d) = sym (last_one (operands_in E s n d))
-      arguments (Limited.Refused n k) = refl
+          bind_limited Err x (λ n d. operands_in E s n d)
+          ≡ bind_limited Err x (λ n d. bind_checked Err (operands_in E s n d) (λ e. Ok e))
+      arguments (Ok x) = sym (last_one (operands_in E s x.0 x.1))
+      arguments (Err r) = refl
 
       go : (call : Bool) →
-          cond call (bind_limited Checked.Refused (call_check s c) (λ n d. operands_in E s n d))
-          (bind_checked Checked.Refused (side_in E s (has_left kind) c) (λ d. side_in E s (eqb kind 2) d))
-          ≡ bind_limited Checked.Refused (cond call (call_check s c) (Limited.Word (sides_of kind) c))
-          (λ n d. bind_checked Checked.Refused (operands_in E s n d) (λ e. zeros_check s (cond call 0 (8 - 4 * sides_of kind)) e))
+          cond call (bind_limited Err (call_check s c) (λ n d. operands_in E s n d))
+          (bind_checked Err (side_in E s (has_left kind) c) (λ d. side_in E s (eqb kind 2) d))
+          ≡ bind_limited Err (cond call (call_check s c) (Ok (sides_of kind, c)))
+          (λ n d. bind_checked Err (operands_in E s n d) (λ e. zeros_check s (cond call 0 (8 - 4 * sides_of kind)) e))
       go true = arguments (call_check s c)
       go false = two_sides kind

@@ -6,9 +6,9 @@ use mathlib.Core.Bool.{Bool, true, false, cond}
 use native.Mathlib.Omega.{arith}
 use borrow.Author.Tests.{eqb-true}
 use lib.Dec.{eqb}
+use Rattle.std.specs.Prelude.{Ok}
 use Rattle.cells.specs.Cells.{cells, cell_at}
 use Rattle.cells.specs.declared.Cursor.{Cursor}
-use Rattle.layout.specs.declared.Checked.{Checked}
 use Rattle.layout.specs.declared.Edition.{Edition}
 use Rattle.layout.specs.Limits.{most_variables, most_instructions, most_arguments}
 use Rattle.layout.specs.Layout.{cursor, body_start, instrs_in, sheet_in, LaidIn}
@@ -17,7 +17,7 @@ use Rattle.ir.specs.Function.{arguments_at, behind, params_from}
 
 -- ---- the sheet
 
-pub laid_from : {E : Edition} {s : List ℕ} {d : Cursor} → sheet_in E s ≡ Checked.Behind d → LaidIn E s
+pub laid_from : {E : Edition} {s : List ℕ} {d : Cursor} → sheet_in E s ≡ Ok d → LaidIn E s
 laid_from {E} {s} {d} e = record { end = d; is = e }
 
 module _ {E : Edition} {s : List ℕ} (r : LaidIn E s) where
@@ -46,7 +46,7 @@ module _ {E : Edition} {s : List ℕ} (r : LaidIn E s) where
 
 pub record WalkIn (E : Edition) (s : List ℕ) (n k : ℕ) : Type 0 where
   pub end : Cursor
-  pub is : instrs_in E s n (cursor k) ≡ Checked.Behind end
+  pub is : instrs_in E s n (cursor k) ≡ Ok end
 
 abbrev pub Walk : List ℕ → ℕ → ℕ → Type 0
 Walk = WalkIn Edition.First

@@ -1,3 +1,4 @@
 pub mod Limits
 pub mod Layout
 pub mod Sides
+pub mod Steps

@@ -1,14 +1,13 @@
 // An instruction is its position in Krc's `Instr`, its operation, dest (3 cells), left (4) and right (4); a call's arguments follow.
-ghost use Rattle.std.specs.Prelude.{◌≡◌, ◌≤◌, cond, eqb};
-ghost use Rattle.layout.specs.declared.Limited.{Limited};
+ghost use Rattle.std.specs.Prelude.{◌≡◌, ◌≤◌, cond, eqb, Ok};
 ghost use Rattle.layout.specs.Layout.{operation_most, has_dest, has_left, dest_in, call_check, body_in, instr_in, instrs_in};
 ghost use Rattle.layout.specs.Sides.{sides_of, unused_of};
 
+use crate::Edition;
 use crate::limits::MOST_ARGUMENTS;
-use crate::parts::{LARGEST, limited, operands_check, var_check, zeros_check};
-use crate::{Checked, Edition, Limited};
-use cells::refusals::TORN_SHEET;
-use cells::{Cell, Cursor};
+use crate::parts::{LARGEST, each, limited, operands_check, torn, var_check, zeros_check};
+use cells::Cursor;
+use cells::refusals::Refused;
 
 fn operation_most(kind: u64) -> u64
     ensures { result ≡ operation_most kind }
@@ -17,9 +16,7 @@ fn operation_most(kind: u64) -> u64
         1 => 2,
         2 => 17,
         5 => 1,
-        6 => LARGEST,
-        7 => LARGEST,
-        8 => LARGEST,
+        6 | 7 | 8 => LARGEST,
         _ => 0,
     }
 }
@@ -28,27 +25,18 @@ fn operation_most(kind: u64) -> u64
 pub fn has_dest(kind: u64, operation: u64) -> bool
     ensures { result ≡ has_dest kind operation }
 {
-    if kind < 5 {
-        return true;
-    }
-    if kind == 5 { operation == 1 } else { false }
+    kind < 5 || kind == 5 && operation == 1
 }
 
 // One-operand kinds use left, and a Binary.
 pub fn has_left(kind: u64) -> bool
     ensures { result ≡ has_left kind }
 {
-    if kind < 4 {
-        return true;
-    }
-    match kind {
-        8 => true,
-        9 => true,
-        _ => false,
-    }
+    kind < 4 || matches!(kind, 8 | 9)
 }
 
-fn dest_check(e: Edition, s: &[u8], has: bool, c: Cursor) -> Checked
+#[tactic(auto, unfolding(crate::specs::Layout::dest_in))]
+fn dest_check(e: Edition, s: &[u8], has: bool, c: Cursor) -> Result<Cursor, Refused>
     ensures { result ≡ dest_in e s.now has c }
 {
     if has {
@@ -78,75 +66,47 @@ fn unused_of(kind: u64) -> u64
 }
 
 // A call has symbol number and argument count in left's first two cells.
-fn call_check(s: &[u8], c: Cursor) -> Limited
+#[tactic(auto, unfolding(crate::specs::Layout::call_check))]
+fn call_check(s: &[u8], c: Cursor) -> Result<(u64, Cursor), Refused>
     ensures { result ≡ call_check s.now c }
 {
-    let c1 = match c.within(s, 0, LARGEST) {
-        Cell::Word(_, c1) => c1,
-        Cell::Wrong(k) => return Limited::Refused(TORN_SHEET, k),
-    };
-    match limited(s, c1, MOST_ARGUMENTS) {
-        Limited::Word(count, c2) => match zeros_check(s, 6, c2) {
-            Checked::Behind(c3) => Limited::Word(count, c3),
-            Checked::Refused(n, k) => Limited::Refused(n, k),
-        },
-        Limited::Refused(n, k) => Limited::Refused(n, k),
-    }
+    let (_, c1) = c.within(s, 0, LARGEST).map_err(torn)?;
+    let (count, c2) = limited(s, c1, MOST_ARGUMENTS)?;
+    let c3 = zeros_check(s, 6, c2)?;
+    Ok((count, c3))
 }
 
 // This is the number of an instruction's operands, and the cursor of the first, which of a call is behind its own cells.
-fn operands_of(s: &[u8], kind: u64, c: Cursor) -> Limited
-    ensures { result ≡ cond (eqb kind 5) (call_check s.now c) (Limited.Word (sides_of kind) c) }
+fn operands_of(s: &[u8], kind: u64, c: Cursor) -> Result<(u64, Cursor), Refused>
+    ensures { result ≡ cond (eqb kind 5) (call_check s.now c) (Ok (sides_of kind, c)) }
 {
     if kind == 5 {
         return call_check(s, c);
     }
-    Limited::Word(sides_of(kind), c)
+    Ok((sides_of(kind), c))
 }
 
 // Left, right and a call's arguments are read as one list, so that `operands_check` is called from one place, where it is inlined.
-fn body_check(e: Edition, s: &[u8], kind: u64, c: Cursor) -> Checked
+fn body_check(e: Edition, s: &[u8], kind: u64, c: Cursor) -> Result<Cursor, Refused>
     ensures { result ≡ body_in e s.now kind c }
 {
-    match operands_of(s, kind, c) {
-        Limited::Word(count, c1) => match operands_check(e, s, count, c1) {
-            Checked::Behind(c2) => zeros_check(s, unused_of(kind), c2),
-            Checked::Refused(n, k) => Checked::Refused(n, k),
-        },
-        Limited::Refused(n, k) => Checked::Refused(n, k),
-    }
+    let (count, c1) = operands_of(s, kind, c)?;
+    let c2 = operands_check(e, s, count, c1)?;
+    zeros_check(s, unused_of(kind), c2)
 }
 
-pub fn instr_check(e: Edition, s: &[u8], c: Cursor) -> Checked
+#[tactic(auto, unfolding(crate::specs::Layout::instr_in))]
+pub fn instr_check(e: Edition, s: &[u8], c: Cursor) -> Result<Cursor, Refused>
     ensures { result ≡ instr_in e s.now c }
 {
-    match c.within(s, 0, 10) {
-        Cell::Word(kind, c1) => match c1.within(s, 0, operation_most(kind)) {
-            Cell::Word(operation, c2) => match dest_check(e, s, has_dest(kind, operation), c2) {
-                Checked::Behind(c3) => body_check(e, s, kind, c3),
-                Checked::Refused(n, k) => Checked::Refused(n, k),
-            },
-            Cell::Wrong(k) => Checked::Refused(TORN_SHEET, k),
-        },
-        Cell::Wrong(k) => Checked::Refused(TORN_SHEET, k),
-    }
+    let (kind, c1) = c.within(s, 0, 10).map_err(torn)?;
+    let (operation, c2) = c1.within(s, 0, operation_most(kind)).map_err(torn)?;
+    let c3 = dest_check(e, s, has_dest(kind, operation), c2)?;
+    body_check(e, s, kind, c3)
 }
 
-pub fn instrs_check(e: Edition, s: &[u8], n: u64, c: Cursor) -> Checked
+pub fn instrs_check(e: Edition, s: &[u8], n: u64, c: Cursor) -> Result<Cursor, Refused>
     ensures { result ≡ instrs_in e s.now n c }
 {
-    let mut left = n;
-    let mut here = c;
-    while 0 < left {
-        match instr_check(e, s, here) {
-            Checked::Behind(next) => {
-                here = next;
-            }
-            Checked::Refused(number, k) => {
-                return Checked::Refused(number, k);
-            }
-        }
-        left -= 1;
-    }
-    Checked::Behind(here)
+    each(n, c, |here| instr_check(e, s, here))
 }

@@ -8,25 +8,9 @@ pub mod parts;
 pub mod sheet;
 pub mod tables;
 
-use cells::Cursor;
-
 // The lowering reads edition 1 of a sheet. In edition 2 a variable does not repeat the type of its entry.
-#[derive(Clone, Copy)]
+#[derive(Clone, Copy, Debug, PartialEq, Eq)]
 pub enum Edition {
     First,
     Second,
-}
-
-// Reading a cell with a limit finds the cell and the cursor behind it, or the refusal's number and cell.
-#[derive(Clone, Copy)]
-pub enum Limited {
-    Word(u64, Cursor),
-    Refused(u8, usize),
-}
-
-// Checking a part of a layout finds the cursor behind it, or the refusal's number and cell.
-#[derive(Clone, Copy)]
-pub enum Checked {
-    Behind(Cursor),
-    Refused(u8, usize),
 }

@@ -1,41 +1,42 @@
 // The tables are a string count, then one cell a float, 1 short or 0 long.
 ghost use Rattle.std.specs.Prelude.{◌≡◌};
-ghost use Rattle.layout.specs.Layout.{floats_check, tables_check};
+ghost use Rattle.cells.specs.declared.refusals.Refusal.{Refusal};
+ghost use Rattle.layout.specs.Layout.{refused_at, floats_check, tables_check};
 
-use crate::Checked;
 use crate::limits::{MOST_FLOATS, MOST_STRINGS};
 use crate::parts::end_check;
-use cells::refusals::BAD_TABLE;
-use cells::{Cell, Cursor};
+use cells::refusals::{Refusal, Refused};
+use cells::{Cursor, WrongCell};
 
-// There are at most `n` floats from the cursor on.
-fn floats_check(t: &[u8], n: u64, c: Cursor) -> Checked
-    ensures { result ≡ floats_check t.now n c }
+fn bad_table(w: WrongCell) -> Refused
+    ensures { result ≡ refused_at Refusal.BadTable w.cell }
 {
-    let mut left = n;
-    let mut here = c;
-    while 0 < left {
-        if let Checked::Behind(c) = end_check(BAD_TABLE, t, here) {
-            return Checked::Behind(c);
-        }
-        match here.within(t, 0, 1) {
-            Cell::Word(_, next) => {
-                here = next;
-            }
-            Cell::Wrong(k) => {
-                return Checked::Refused(BAD_TABLE, k);
-            }
-        }
-        left -= 1;
+    Refused {
+        refusal: Refusal::BadTable,
+        place: w.cell as u64,
     }
-    end_check(BAD_TABLE, t, here)
 }
 
-pub fn tables_check(t: &[u8]) -> Checked
+// There are at most `n` floats from the cursor on.
+fn floats_check(t: &[u8], n: u64, c: Cursor) -> Result<Cursor, Refused>
+    ensures { result ≡ floats_check t.now n c }
+{
+    let mut here = c;
+    for _ in 0..n {
+        if end_check(Refusal::BadTable, t, here).is_ok() {
+            return Ok(here);
+        }
+        (_, here) = here.within(t, 0, 1).map_err(bad_table)?;
+    }
+    end_check(Refusal::BadTable, t, here)
+}
+
+#[tactic(auto, unfolding(crate::specs::Layout::tables_check))]
+pub fn tables_check(t: &[u8]) -> Result<Cursor, Refused>
     ensures { result ≡ tables_check t.now }
 {
-    match Cursor::new(0).within(t, 0, MOST_STRINGS) {
-        Cell::Word(_, next) => floats_check(t, MOST_FLOATS, next),
-        Cell::Wrong(k) => Checked::Refused(BAD_TABLE, k),
-    }
+    let (_, next) = Cursor { at: 0 }
+        .within(t, 0, MOST_STRINGS)
+        .map_err(bad_table)?;
+    floats_check(t, MOST_FLOATS, next)
 }

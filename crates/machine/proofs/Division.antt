@@ -12,7 +12,7 @@ use Rattle.ir.specs.declared.VarId.{VarId}
 use Rattle.ir.specs.declared.Operand.{Operand as IrOp}
 use Rattle.ir.specs.Types as types
 use Rattle.ir.specs.Types.{element_size}
-use Rattle.ir.specs.Function.{Function, Line, Tables, BinaryOp}
+use Rattle.ir.specs.Function.{Function, Line, Tables}
 use Rattle.x86.specs.declared.enums.Size.{Size}
 use Rattle.x86.specs.declared.enums.Operand.{Operand}
 use Rattle.x86.specs.declared.enums.BinOp.{BinOp}
@@ -41,6 +41,7 @@ use Rattle.machine.proofs.Moves.{R, Ready, Land, Moves, Here, Path-of, size_byte
 use Rattle.machine.proofs.Blocks.{loads, reads}
 use Rattle.machine.proofs.Operations.{value_lt}
 use Rattle.machine.proofs.Ends.{Ends}
+use Rattle.ir.specs.declared.BinaryOp.{BinaryOp}
 
 -- ---- the records Div and Idiv
 

@@ -13,10 +13,10 @@ use Rattle.ir.specs.declared.«Type».{«Type» as IrType}
 use Rattle.ir.specs.declared.VarId.{VarId}
 use Rattle.ir.specs.declared.Operand.{Operand as IrOp}
 use Rattle.ir.specs.declared.UnaryOp.{UnaryOp as IrUnary}
-use Rattle.ir.specs.declared.Dest.{Dest}
+use Rattle.std.specs.Prelude.{Option, Some, None}
 use Rattle.ir.specs.declared.Instr.{Instr}
 use Rattle.ir.specs.Types.{ok, ◌>>=◌, bytes, type_size, element_width, element_size, is_scalar, is_float, operand_size, elf_size}
-use Rattle.ir.specs.Function.{Tables, BinaryOp}
+use Rattle.ir.specs.Function.{Tables}
 use Rattle.x86.specs.declared.register.Register.{Register}
 use Rattle.x86.specs.declared.enums.Size.{Size}
 use Rattle.x86.specs.declared.enums.Operand.{Operand}
@@ -53,6 +53,7 @@ use Rattle.codegen.proofs.Results.{Yields, yields, refuses, bind, weaken, choose
 use Rattle.codegen.proofs.Lowers.{Copies, copies, ZeroExtends, zero_extends_lem, working, Conversion, between_floats, to_float, from_float, Converts, conversion, extension, calculations, comparisons, Works, quotient, remainder, product, shifted, Sides, words, floats, swapped, Operates, one_load_lem, two_loads_lem, compares, Lowers, copied, unary, binary, cast_copied, cast_short, cast, zeroed, called, labelled, jump, branch, returned, comment, lowers}
 use Rattle.machine.proofs.Run.{All, all_append, all_map}
 use Rattle.machine.proofs.Sound.{Sound, SoundOperand, Straight, Given, Usable, tame, is_jump, is_call, either, slot_sound, into_register, into_slot, extends, load_sound}
+use Rattle.ir.specs.declared.BinaryOp.{BinaryOp}
 
 -- ---- numbers of an instruction that a record takes over: below 2 ^ 64, as those of a sheet are
 
@@ -841,18 +842,18 @@ module _ (tables : Tables) (vars : List IrType) (N : Naming) (Q : Type 0) where
   pushing j [] = yields (none j)
   pushing j (x ∷ xs) = bind (loaded RAX x) (λ a g. bind (pushing (suc j) xs) (λ l h. yields (push g h)))
 
-  abbrev GivenResult : Dest → Type 0
-  GivenResult Dest.Nothing = Unit {0}
-  GivenResult (Dest.Var d) = GivenVar d
+  abbrev GivenResult : Option VarId → Type 0
+  GivenResult None = Unit {0}
+  GivenResult (Some d) = GivenVar d
 
-  results : (d : Dest) → GivenResult d → Yields (store_result ctx d) (All (Sound vars N Q))
+  results : (d : Option VarId) → GivenResult d → Yields (store_result ctx d) (All (Sound vars N Q))
   unfolding store_result
-  results Dest.Nothing g = yields tt
-  results (Dest.Var v) g =
+  results None g = yields tt
+  results (Some v) g =
       bind (var_at_lem tables vars v) (λ y p. bind (var_size_is v) (λ z u. yields
       (either vars N Q (is_float v.ty) (store_at BinOp.StoreF v y (xmm 0) z u g p (lit< tt)) (store_at BinOp.Mov v y RAX z u g p (lit< tt)), tt)))
 
-  call_made : (d : Dest) (f : ℕ) (xs : List IrOp) → GivenResult d → GivenArguments (N false) xs → Yields (generate_call ctx d f xs) (Calling tables vars N Q f xs)
+  call_made : (d : Option VarId) (f : ℕ) (xs : List IrOp) → GivenResult d → GivenArguments (N false) xs → Yields (generate_call ctx d f xs) (Calling tables vars N Q f xs)
   unfolding generate_call
   call_made d f xs e w =
       bind (pushing 0 (excess floating 0 0 xs)) (λ p q. bind (arguments 0 0 xs) (λ l h. bind (results d e) (λ s g.
@@ -882,9 +883,9 @@ module _ (tables : Tables) (vars : List IrType) (Q : Type 0) where
   cast_source_lem : (N : Naming) (x : IrOp) → ((v : VarId) (w : ℕ) → Casts x v w → N false v w) → GivenCast tables vars N Q x
   cast_source_lem N x f = of_var _ x (λ u i. (cast_bytes u.ty, f u (cast_bytes u.ty) (rw i (refl, refl)), omega arith))
 
-  call_result : (N : Naming) (d : Dest) → ((v : VarId) (w : ℕ) → Result d v w → N true v w) → GivenResult tables vars N Q d
-  call_result N Dest.Nothing f = tt
-  call_result N (Dest.Var d) f = whole_var (N true) d f
+  call_result : (N : Naming) (d : Option VarId) → ((v : VarId) (w : ℕ) → Result d v w → N true v w) → GivenResult tables vars N Q d
+  call_result N None f = tt
+  call_result N (Some d) f = whole_var (N true) d f
 
   made_of : {labels : ℕ} {ret : IrType} {i : Instr} {args : List IrOp} {b : List Instruction} → Lowers context labels ret i args b → (Q → SmallInstr i args)
       → Made tables vars (Names tables i args) Q i args b

@@ -13,7 +13,7 @@ use Rattle.ir.specs.declared.UnaryOp.{UnaryOp as IrUnary}
 use Rattle.ir.specs.declared.Instr.{Instr}
 use Rattle.ir.specs.Types.{element_size, operand_size}
 use Rattle.ir.specs.Types as types
-use Rattle.ir.specs.Function.{Function, Line, Tables, BinaryOp, binary_op}
+use Rattle.ir.specs.Function.{Function, Line, Tables}
 use Rattle.x86.specs.declared.enums.Size.{Size}
 use Rattle.x86.specs.declared.enums.Operand.{Operand}
 use Rattle.x86.specs.declared.enums.BinOp.{BinOp}
@@ -39,6 +39,7 @@ use Rattle.machine.proofs.Lowered.{slot, convert, size_in, load, general_load_le
 use Rattle.machine.proofs.Prologue.{near_slot, sized, front_known}
 use Rattle.machine.proofs.Lines.{front_framed}
 use Rattle.machine.proofs.Slots.{frame_le}
+use Rattle.ir.specs.declared.BinaryOp.{BinaryOp}
 
 -- ---- loads
 
@@ -242,7 +243,7 @@ module _ (F : Function) (small : depth F.vars ≤ 1048576) where
   lower_known (Instr.Copy d x) (s, h, e) = (operand_known _ 0 x refl s.type.width h e, (store_known d 0 refl s, tt))
   lower_known (Instr.Unary d op x) (s, h, e) =
       (operand_known _ 0 x refl s.type.width h e, all_append Known (unary_records op false (size_in d)) _ (unary_known d op s) (store_known d 0 refl s, tt))
-  lower_known (Instr.Binary d op x y) (s, h, k, e, p, q) = binary_known d x y s h k (binary_op op) e p
+  lower_known (Instr.Binary d op x y) (s, h, k, e, p) = binary_known d x y s h k op e p
   lower_known (Instr.Cast d x) (s, h, z) = go (leb (types.bytes d.ty) (width x)) (is_unsigned_short x) refl refl
     where
       go : (b c : Bool) → leb (types.bytes d.ty) (width x) ≡ b → is_unsigned_short x ≡ c → Fit (casting F d x b c)

@@ -13,7 +13,7 @@ use Rattle.ir.specs.declared.Operand.{Operand as IrOp}
 use Rattle.ir.specs.declared.UnaryOp.{UnaryOp as IrUnary}
 use Rattle.ir.specs.declared.Instr.{Instr}
 use Rattle.ir.specs.Types.{Result, ok, ◌>>=◌, bytes, is_float, element_size, operand_size}
-use Rattle.ir.specs.Function.{Function, Line, Tables, BinaryOp, binary_op}
+use Rattle.ir.specs.Function.{Function, Line, Tables}
 use Rattle.x86.specs.declared.register.Register.{Register}
 use Rattle.x86.specs.declared.enums.Size.{Size}
 use Rattle.x86.specs.declared.enums.Operand.{Operand}
@@ -41,6 +41,7 @@ use Rattle.machine.proofs.Frame.{displacement_is}
 use Rattle.machine.proofs.Accepted.{Accepted, records}
 use Rattle.machine.proofs.Generated.{labels_at, label_made}
 use Rattle.machine.proofs.Plainness.{Width, one, four, eight, ScalarType, Entry, Scalar, PlainOperand, PlainBinary, PlainInstr, Meant}
+use Rattle.ir.specs.declared.BinaryOp.{BinaryOp}
 
 -- ---- operands
 
@@ -155,7 +156,7 @@ casting F d x narrow short = cond narrow (copies F d x) (cond short (zero_extend
 abbrev pub lower : Function → Instr → List Instruction
 lower F (Instr.Copy d x) = copies F d x
 lower F (Instr.Unary d op x) = load F RAX x (size_in d) ∷ unary_records op false (size_in d) ++ store F d RAX ∷ []
-lower F (Instr.Binary d op x y) = lower_binary F (binary_op op) d x y
+lower F (Instr.Binary d op x y) = lower_binary F op d x y
 lower F (Instr.Cast d x) = casting F d x (leb (bytes d.ty) (width x)) (is_unsigned_short x)
 lower F (Instr.Zero d) =
     Instruction.Lea (slot F d) RDI Size.NoSize ∷ move (Operand.Reg RCX) (Operand.Imm (bytes d.ty)) Size.U64 ∷ move (Operand.Reg RAX) (Operand.Imm 0) Size.U64
@@ -371,7 +372,7 @@ module _ (tables : Tables) (F : Function) where
   unfolding generate_instr generate_binary generate_jump generate_jmp_if_not
   lowers args (Instr.Copy d x) m (s, h, w) = exactly (copy_is d x s h)
   lowers args (Instr.Unary d op x) m (s, h, w) = exactly (unary_is d op x s h)
-  lowers args (Instr.Binary d op x y) m (s, h, k, w, p, q) = rw s.type.whole (exactly (binary_is (binary_op op) d x y s h k p))
+  lowers args (Instr.Binary d op x y) m (s, h, k, w, p) = rw s.type.whole (exactly (binary_is op d x y s h k p))
   lowers args (Instr.Cast d x) m (s, h, w) = exactly (cast_is d x s h)
   lowers args (Instr.Zero d) m h = exactly (zero_is d h)
   lowers args (Instr.Call d f count) m h = absurd h

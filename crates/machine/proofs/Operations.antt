@@ -9,7 +9,7 @@ use native.Mathlib.Omega.{arith}
 use Rattle.ir.specs.declared.Operand.{Operand as IrOp}
 use Rattle.ir.specs.declared.UnaryOp.{UnaryOp as IrUnary}
 use Rattle.ir.specs.Types.{element_size}
-use Rattle.ir.specs.Function.{Function, BinaryOp}
+use Rattle.ir.specs.Function.{Function}
 use Rattle.x86.specs.declared.enums.Operand.{Operand}
 use Rattle.x86.specs.declared.enums.BinOp.{BinOp}
 use Rattle.x86.specs.declared.enums.ShiftOp.{ShiftOp}
@@ -26,6 +26,7 @@ use Rattle.machine.proofs.Records.{shift_df}
 use Rattle.machine.proofs.Plainness.{Width, one, four, eight, PlainOperand}
 use Rattle.machine.proofs.Lowered.{right_of}
 use Rattle.machine.proofs.Moves.{size_bytes}
+use Rattle.ir.specs.declared.BinaryOp.{BinaryOp}
 
 -- ---- F's values have their width
 

@@ -14,7 +14,7 @@ use Rattle.ir.specs.declared.Operand.{Operand as IrOp}
 use Rattle.ir.specs.declared.Instr.{Instr}
 use Rattle.ir.specs.Types as types
 use Rattle.ir.specs.Types.{ok, no_array, is_scalar, element_width, bytes, type_size, is_float, is_unsigned, element_size, elf_size}
-use Rattle.ir.specs.Function.{Function, Line, BinaryOp, binary_op}
+use Rattle.ir.specs.Function.{Function, Line, binary_op}
 use Rattle.machine.specs.Word.{W}
 use Rattle.machine.specs.Steps as steps
 use Rattle.machine.specs.Steps.{width, is_signed_type, is_label}
@@ -22,6 +22,7 @@ use Rattle.machine.specs.Plain.{every, is_plain_code, is_plain_return, same_type
 use Rattle.machine.specs.Frames.{size_of}
 use Rattle.machine.proofs.Tests.{both, not-true, four_cases}
 use Rattle.machine.proofs.Run.{cons_not_nil}
+use Rattle.ir.specs.declared.BinaryOp.{BinaryOp}
 
 -- ---- types
 
@@ -155,7 +156,7 @@ abbrev pub PlainInstr : Function → Instr → Type 0
 PlainInstr F (Instr.Copy d x) = Scalar F d × PlainOperand F x × (width x ≡ bytes d.ty)
 PlainInstr F (Instr.Unary d op x) = Scalar F d × PlainOperand F x × (width x ≡ bytes d.ty)
 PlainInstr F (Instr.Binary d op x y) =
-    Scalar F d × PlainOperand F x × PlainOperand F y × (width x ≡ width y) × PlainBinary (binary_op op) d x y × (2 ≤ op)
+    Scalar F d × PlainOperand F x × PlainOperand F y × (width x ≡ width y) × PlainBinary op d x y
 PlainInstr F (Instr.Cast d x) = Scalar F d × PlainOperand F x × (bytes d.ty < 8 → Long FourBytes x)
 PlainInstr F (Instr.Zero d) = Entry F d
 PlainInstr F (Instr.Call d f count) = ⊥
@@ -258,13 +259,6 @@ plain_binary op d x y = go op
     go BinaryOp.Div e = same e
     go BinaryOp.Rem e = let h = both (eqb (width x) (bytes d.ty)) (not (is_one_byte d)) e in (same h.0, wide d h.1)
 
--- the logical pair has the numbers 0 and 1
-not_logical : (op : ℕ) (d : VarId) (x y : IrOp) → PlainBinary (binary_op op) d x y → 2 ≤ op
-unfolding binary_op
-not_logical zero d x y h = absurd h
-not_logical (suc zero) d x y h = absurd h
-not_logical (suc (suc op)) d x y h = omega arith
-
 stands : (l : ℕ) (ls : List Line) → 1 ≤ label_count l ls → steps.find l ls < length ls
 unfolding label_count steps.find
 stands l [] h = absurd (omega arith)
@@ -295,12 +289,12 @@ unfolding is_plain_instr
 plain_instr F before (Instr.Copy d x) e = plain_move F d x e
 plain_instr F before (Instr.Unary d op x) e = plain_move F d x e
 plain_instr F before (Instr.Binary d op x y) e =
-    let h = both (is_scalar_var F d) (is_plain_operand F x && (is_plain_operand F y && (eqb (width x) (width y) && is_plain_binary (binary_op op) d x y))) e in
-    let g = both (is_plain_operand F x) (is_plain_operand F y && (eqb (width x) (width y) && is_plain_binary (binary_op op) d x y)) h.1 in
-    let f = both (is_plain_operand F y) (eqb (width x) (width y) && is_plain_binary (binary_op op) d x y) g.1 in
-    let t = both (eqb (width x) (width y)) (is_plain_binary (binary_op op) d x y) f.1 in
-    let b : PlainBinary (binary_op op) d x y = plain_binary (binary_op op) d x y t.1 in
-    (plain_scalar F d h.0, plain_operand F x g.0, plain_operand F y f.0, eqb-true (width x) (width y) t.0, b, not_logical op d x y b)
+    let h = both (is_scalar_var F d) (is_plain_operand F x && (is_plain_operand F y && (eqb (width x) (width y) && is_plain_binary op d x y))) e in
+    let g = both (is_plain_operand F x) (is_plain_operand F y && (eqb (width x) (width y) && is_plain_binary op d x y)) h.1 in
+    let f = both (is_plain_operand F y) (eqb (width x) (width y) && is_plain_binary op d x y) g.1 in
+    let t = both (eqb (width x) (width y)) (is_plain_binary op d x y) f.1 in
+    let b : PlainBinary op d x y = plain_binary op d x y t.1 in
+    (plain_scalar F d h.0, plain_operand F x g.0, plain_operand F y f.0, eqb-true (width x) (width y) t.0, b)
 plain_instr F before (Instr.Cast d x) e =
     let h = both (is_scalar_var F d) (is_plain_operand F x && is_plain_cast d x) e in
     let g = both (is_plain_operand F x) (is_plain_cast d x) h.1 in (

@@ -5,10 +5,10 @@ use Rattle.std.proofs.Math.Option.{some}
 use Rattle.ir.specs.declared.«Type».{«Type» as IrType}
 use Rattle.ir.specs.declared.VarId.{VarId}
 use Rattle.ir.specs.declared.Operand.{Operand as IrOp}
-use Rattle.ir.specs.declared.Dest.{Dest}
+use Rattle.std.specs.Prelude.{Option, Some, None}
 use Rattle.ir.specs.declared.Instr.{Instr}
 use Rattle.ir.specs.Types.{is_float, is_scalar, element_width, bytes}
-use Rattle.ir.specs.Function.{Function, Line, Tables, BinaryOp, binary_op, tables_of, function_of}
+use Rattle.ir.specs.Function.{Function, Line, Tables, tables_of, function_of}
 use Rattle.x86.specs.declared.mem_address.Base.{Base}
 use Rattle.x86.specs.declared.enums.Size.{Size}
 use Rattle.x86.specs.declared.enums.Operand.{Operand}
@@ -28,6 +28,7 @@ use Rattle.machine.specs.Machine.{State, Choice}
 use Rattle.machine.specs.Plain.{Plain}
 use Rattle.machine.specs.Frames.{frame_size, slot_of, slot_byte, size_of, Framed}
 use Rattle.machine.specs.Simulation.{Entry, base, abi_registers, stack_at, place}
+use Rattle.ir.specs.declared.BinaryOp.{BinaryOp}
 
 -- ---- the frame in the list
 
@@ -240,9 +241,9 @@ abbrev pub PassesOne : List IrOp → Taking
 PassesOne [] v w = ⊥
 PassesOne (x ∷ xs) v w = Passes x v w ⊎ PassesOne xs v w
 
-abbrev pub Result : Dest → Taking
-Result Dest.Nothing v w = ⊥
-Result (Dest.Var d) v w = Whole d v w
+abbrev pub Result : Option VarId → Taking
+Result None v w = ⊥
+Result (Some d) v w = Whole d v w
 
 -- dest is written, by its own bytes, so that what is stored lies in its slot where its own type is its entry's; operands are read as the instruction
 -- takes them
@@ -253,8 +254,8 @@ Names tables (Instr.Unary d op x) args true v w = Whole d v w
 Names tables (Instr.Unary d op x) args false v w = Takes (bytes d.ty) x v w
 Names tables (Instr.Binary d op x y) args true v w = Whole d v w
 Names tables (Instr.Binary d op x y) args false v w =
-    Takes (binary_bytes (binary_op op) (compared_bytes tables x) (bytes d.ty)) x v w
-    ⊎ Takes (binary_bytes (binary_op op) (compared_bytes tables x) (bytes d.ty)) y v w
+    Takes (binary_bytes op (compared_bytes tables x) (bytes d.ty)) x v w
+    ⊎ Takes (binary_bytes op (compared_bytes tables x) (bytes d.ty)) y v w
 Names tables (Instr.Cast d x) args true v w = Whole d v w
 Names tables (Instr.Cast d x) args false v w = Casts x v w
 Names tables (Instr.Zero d) args written v w = Whole d v w
@@ -354,7 +355,7 @@ pub record Aligned (vars : List IrType) (d : ℕ) (s₀ s : State) : Type 0 wher
 -- states of the run, and K says what is asked of its records from one number to another
 pub record Called (tables : Tables) (F : Function) (c : List Instruction) (R : ℕ → State) (K : ℕ → ℕ → Type 0) (s₀ : State) (m f : ℕ) : Type 0 where
   pub number : ℕ
-  pub dest : Dest
+  pub dest : Option VarId
   pub count : ℕ
   pub args : List IrOp
   pub within : number < length F.body

@@ -8,11 +8,12 @@ use Rattle.ir.specs.declared.Operand.{Operand}
 use Rattle.ir.specs.declared.Instr.{Instr}
 use Rattle.layout.specs.declared.Checked.{Checked}
 use Rattle.ir.specs.Types.{is_scalar, bytes}
-use Rattle.ir.specs.Function.{Function, Line, BinaryOp, binary_op, tables_of, function_of}
+use Rattle.ir.specs.Function.{Function, Line, tables_of, function_of}
 use Rattle.layout.specs.Layout.{tables_check, sheet_check}
 use Rattle.codegen.specs.Generation.{Outcome, accepted, refused, generate}
 use Rattle.machine.specs.Word.{W}
 use Rattle.machine.specs.Steps.{width, is_label}
+use Rattle.ir.specs.declared.BinaryOp.{BinaryOp}
 
 -- every element of a list passes a test
 unfoldable pub every : {A : Type 0} → (A → Bool) → List A → Bool
@@ -142,7 +143,7 @@ unfoldable pub is_plain_instr : Function → List Line → Instr → Bool
 is_plain_instr F before (Instr.Copy d x) = is_scalar_var F d && (is_plain_operand F x && eqb (width x) (bytes d.ty))
 is_plain_instr F before (Instr.Unary d op x) = is_scalar_var F d && (is_plain_operand F x && eqb (width x) (bytes d.ty))
 is_plain_instr F before (Instr.Binary d op x y) =
-    is_scalar_var F d && (is_plain_operand F x && (is_plain_operand F y && (eqb (width x) (width y) && is_plain_binary (binary_op op) d x y)))
+    is_scalar_var F d && (is_plain_operand F x && (is_plain_operand F y && (eqb (width x) (width y) && is_plain_binary op d x y)))
 is_plain_instr F before (Instr.Cast d x) = is_scalar_var F d && (is_plain_operand F x && is_plain_cast d x)
 is_plain_instr F before (Instr.Zero d) = is_entry F d
 is_plain_instr F before (Instr.Call d symbol count) = false

@@ -8,8 +8,9 @@ use Rattle.ir.specs.declared.Operand.{Operand}
 use Rattle.ir.specs.declared.UnaryOp.{UnaryOp}
 use Rattle.ir.specs.declared.Instr.{Instr}
 use Rattle.ir.specs.Types.{bytes}
-use Rattle.ir.specs.Function.{Function, Line, BinaryOp, binary_op}
+use Rattle.ir.specs.Function.{Function, Line}
 use Rattle.machine.specs.Word.{bound, byte, number, sign, widen, invert, arith_down, rank, differ, magnitude, negated, bit_and, bit_or, bit_xor}
+use Rattle.ir.specs.declared.BinaryOp.{BinaryOp}
 
 -- ---- operands
 
@@ -222,7 +223,7 @@ exec_binary F d op x y s =
 unfoldable pub exec : Function → Instr → State → State
 exec F (Instr.Copy d x) s = assign F d (value x s.vals) s
 exec F (Instr.Unary d op x) s = assign F d (unary op (width x) (value x s.vals)) s
-exec F (Instr.Binary d op x y) s = exec_binary F d (binary_op op) x y s
+exec F (Instr.Binary d op x y) s = exec_binary F d op x y s
 exec F (Instr.Cast d x) s = assign F d (cast (is_signed x) (width x) (bytes d.ty) (value x s.vals)) s
 exec F (Instr.Zero d) s = assign F d 0 s
 exec F (Instr.Call d symbol count) s = ended stuck s

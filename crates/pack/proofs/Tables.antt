@@ -9,10 +9,10 @@ use Rattle.cells.specs.Refusals.{no_entry}
 use Rattle.ir.specs.declared.«Type».{«Type» as IrType}
 use Rattle.ir.specs.declared.VarId.{VarId}
 use Rattle.ir.specs.declared.Operand.{Operand as IrOp}
-use Rattle.ir.specs.declared.Dest.{Dest}
+use Rattle.std.specs.Prelude.{Option, Some, None}
 use Rattle.ir.specs.declared.Instr.{Instr}
 use Rattle.ir.specs.Types.{Result, ok, refused, ◌>>=◌, type_size, is_float}
-use Rattle.ir.specs.Function.{BinaryOp, binary_op, Tables, Line, Function, tables_of, function_of}
+use Rattle.ir.specs.Function.{Tables, Line, Function, tables_of, function_of}
 use Rattle.cells.specs.declared.Cursor.{Cursor}
 use Rattle.layout.specs.declared.Checked.{Checked}
 use Rattle.layout.specs.Layout.{tables_check, sheet_check}
@@ -35,6 +35,7 @@ use Rattle.pack.specs.Names.{is_named, operands_of, any_named, lines_name, names
 use Rattle.pack.specs.Pack.{pack_check, sheet_count, sheet_at, lowered_in}
 use Rattle.pack.specs.Changes.{TablesExchanged}
 use Rattle.pack.proofs.LookUps.{looked_up}
+use Rattle.ir.specs.declared.BinaryOp.{BinaryOp}
 
 -- ---- along binds and tests
 
@@ -207,10 +208,10 @@ module _ (T U : Tables) (offsets : List ℕ) where
       let h = neither (is_named y) (any_named ys) e in
       part (load RAX y Size.NoSize h.0) (λ a. part (pushes (suc j) ys h.1) (λ l. refl))
 
-  result : (dest : Dest) → Same (λ x. store_result x dest)
+  result : (dest : Option VarId) → Same (λ x. store_result x dest)
   unfolding store_result
-  result Dest.Nothing = refl
-  result (Dest.Var v) = part (var v) (λ y. refl)
+  result None = refl
+  result (Some v) = part (var v) (λ y. refl)
 
 -- those in excess are among them
 unnamed : (y : IrOp) (b : Bool) (more less : List IrOp) → is_named y ≡ false → any_named more ≡ false → any_named less ≡ false → any_named (cond b (y ∷ more) less) ≡ false
@@ -235,7 +236,7 @@ module _ (T U : Tables) (offsets : List ℕ) where
       after (var_size dest) (λ z. part (load T U offsets RAX y z (neither (is_named y) (any_named args) e).0) (λ i. part (var T U offsets dest) (λ v. refl)))
   instruction labels ret (Instr.Binary dest op l r) args e =
       let h = neither (is_named l) (is_named r || any_named args) e in
-      operating T U offsets dest (binary_op op) l r h.0 (neither (is_named r) (any_named args) h.1).0
+      operating T U offsets dest op l r h.0 (neither (is_named r) (any_named args) h.1).0
   instruction labels ret (Instr.Cast dest y) args e = casting T U offsets dest y (neither (is_named y) (any_named args) e).0
   instruction labels ret (Instr.Zero dest) args e = after (type_size dest.ty) (λ n. part (var T U offsets dest) (λ v. refl))
   instruction labels ret (Instr.Call dest symbol count) args e =

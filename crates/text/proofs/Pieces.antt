@@ -7,8 +7,8 @@ use native.Mathlib.Nat.{add-zero, add-suc, mod-eq_of_lt}
 use native.Mathlib.Numerals.{add-one, sub-one}
 use native.Mathlib.Omega.{arith}
 use lib.Dec.{ltb, eqb}
-use lib.ListN.{length, get_or, take, set, length-append, length-take, take-append-drop}
-use lib.Seq.{sets-eq, take-suc, length-take-le}
+use lib.ListN.{drop, length, set, length-append, take-append-drop}
+use lib.Seq.{sets-eq, length-take-le}
 use borrow.Author.Tests.{lt-ltb, le-ltb}
 use Rattle.cells.specs.Cells.{write, cell_at}
 use Rattle.cells.proofs.Bytes.{write_write, write_length, word_lt}
@@ -140,15 +140,10 @@ minus_cell v w h e f x y = rw (signed_minus v h, ← e) (put_append x y (omega (
 
 -- ---- the loops
 
-pub no_bytes : {s : List ℕ} (bs : List ℕ) → Put s 0 (take 0 bs) 0 s
-no_bytes {s} bs = put_none s 0
-
--- one byte more
-pub more_bytes : {s mid out : List ℕ} {q : ℕ} (bs : List ℕ) (k : ℕ) → k < length bs → length bs ≤ length s →
-    Put s 0 (take k bs) k mid → Put mid k (get_or bs k 0 ∷ []) q out → Put s 0 (take q bs) q out
-more_bytes {q = q} bs k h f x y =
-    let e : take q bs ≡ take k bs ++ (get_or bs k 0 ∷ []) = rw (y.behind, add-one k) (take-suc bs k 0 h) in
-    rw e (put_append x y (simp length-take (omega arith)))
+-- text at the start of a list
+pub front_put : (s bs : List ℕ) → Put s 0 bs (length bs) (bs ++ drop (length bs) s)
+unfolding write
+front_put s bs = record { behind = omega arith; text = let z : 0 + length bs ≡ length bs = omega arith in rw z refl }
 
 pub no_records : {s : List ℕ} {at : ℕ} (bs : List ℕ) → Put s at (records_text bs 0) at s
 unfolding records_text

@@ -4,26 +4,28 @@ ghost use Rattle.text.specs.Input.{split_of};
 
 use cells::cell_at;
 
-// With `Tables(n)` the n cells behind the first are the tables, and all bytes behind those the sheet.
-#[derive(Clone, Copy)]
-pub enum Parts {
+// An input is too long, or it has no count of table cells that all stand behind it.
+#[derive(Clone, Copy, Debug, PartialEq, Eq)]
+pub enum InputError {
     TooLong,
     NoTables,
-    Tables(usize),
 }
 
-pub fn split(input: &[u8]) -> Parts
+// It gives how many cells behind the first are the tables; all bytes behind those are the sheet.
+#[tactic(auto, unfolding(crate::specs::Input::split_of))]
+pub fn split(input: &[u8]) -> Result<usize, InputError>
     ensures { result ≡ split_of input.now }
 {
     if 65536 < input.len() {
-        return Parts::TooLong;
+        return Err(InputError::TooLong);
     }
     let whole = input.len() / 8;
-    if 0 < whole {
-        let n = cell_at(input, 0);
-        if n < whole as u64 {
-            return Parts::Tables(n as usize);
-        }
+    if whole == 0 {
+        return Err(InputError::NoTables);
     }
-    Parts::NoTables
+    let n = cell_at(input, 0);
+    if whole as u64 <= n {
+        return Err(InputError::NoTables);
+    }
+    Ok(n as usize)
 }

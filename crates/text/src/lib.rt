@@ -20,15 +20,12 @@ fn put_byte(out: &mut [u8], at: usize, b: u8) -> usize
 }
 
 // It puts bytes from the start of `out` on; the answer is the place behind them.
-fn put_word(out: &mut [u8], bytes: &[u8]) -> usize
+fn put_bytes(out: &mut [u8], bytes: &[u8]) -> usize
     requires { length bytes.now ≤ length out.old }
     ensures { Put out.old 0 bytes.now result out.new }
 {
-    let mut k = 0;
-    while k < bytes.len() {
-        k = put_byte(out, k, bytes[k]);
-    }
-    k
+    out[..bytes.len()].copy_from_slice(bytes);
+    bytes.len()
 }
 
 // It gives the digit of a number below ten.
@@ -93,12 +90,9 @@ fn put_records(records: &[u8], n: usize, out: &mut [u8], at: usize) -> usize
     requires n_in_bounds_2 { at + length (records_text records.now n) + 176 ≤ length out.old }
     ensures { Put out.old at (records_text records.now n) result out.new }
 {
-    let mut k: usize = 0;
     let mut end = at;
-    while k < n {
-        let first = k * 8;
-        end = put_cells(records, first, 8, out, end);
-        k += 1;
+    for k in 0..n {
+        end = put_cells(records, k * 8, 8, out, end);
     }
     end
 }
@@ -108,7 +102,7 @@ fn put_ok(n: u64, out: &mut [u8]) -> usize
     requires { 24 ≤ length out.old }
     ensures { Put out.old 0 (ok_line n) result out.new }
 {
-    let number = put_word(out, b"ok ");
+    let number = put_bytes(out, b"ok ");
     let end = put_digits(out, number, 20, n);
     put_byte(out, end, b'\n')
 }
@@ -129,7 +123,7 @@ pub fn refused_text(n: u64, place: u64, out: &mut [u8]) -> usize
     requires { 50 ≤ length out.old }
     ensures { Put out.old 0 (refused_line n place) result out.new }
 {
-    let number = put_word(out, b"refused ");
+    let number = put_bytes(out, b"refused ");
     let blank = put_digits(out, number, 20, n);
     let second = put_byte(out, blank, b' ');
     let end = put_digits(out, second, 20, place);
@@ -141,5 +135,5 @@ pub fn too_long_text(out: &mut [u8]) -> usize
     requires { 9 ≤ length out.old }
     ensures { Put out.old 0 too_long_line result out.new }
 {
-    put_word(out, b"too long\n")
+    put_bytes(out, b"too long\n")
 }

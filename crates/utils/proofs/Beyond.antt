@@ -11,7 +11,10 @@ use Rattle.x86.specs.declared.enums.Instruction.{Instruction}
 use Rattle.codegen.specs.Instructions.{words_taken, floats_taken, excess}
 use Rattle.codegen.proofs.Results.{Yields, never}
 use Rattle.codegen.proofs.Taken.{stack_more}
-use Rattle.utils.specs.declared.CountResult.{CountResult}
+use Rattle.std.specs.Prelude.{Ok, Err}
+use Rattle.std.specs.Prelude as std
+use Rattle.cells.specs.declared.refusals.Refusal.{Refusal}
+use Rattle.cells.specs.Refusals.{number_of_refusal}
 use Rattle.codegen.specs.declared.registers.Taken.{Taken}
 use Rattle.utils.specs.Answers.{counted}
 use Rattle.utils.specs.Makes.{Makes, Ready, then}
@@ -47,7 +50,7 @@ module _ {A : Type 0} {float : A → Bool} {one : ℕ → A → Result (List Ins
       go false = sym (before_none (all t.stack (excess float (words_taken (float x) t.words) (floats_taken (float x) t.floats) xs)))
 
   -- the records of one
-  records_of_lem : (b : Bool) (t : Taken) (x : A) {writes : Bool} {at m : ℕ} {old new : List ℕ} → Makes writes (if_beyond b t (one t.stack x)) at old new (CountResult.Records m)
+  records_of_lem : (b : Bool) (t : Taken) (x : A) {writes : Bool} {at m : ℕ} {old new : List ℕ} → Makes writes (if_beyond b t (one t.stack x)) at old new (Ok m)
       → 2 * t.stack + m ≡ 2 * (behind_one b t).stack
   records_of_lem b t x {writes} {at} {m} made = go (is_beyond b t) made.says
     where
@@ -87,7 +90,7 @@ module _ {A : Type 0} {float : A → Bool} {one : ℕ → A → Result (List Ins
       pub turn_ready : {p : ℕ} → p ≡ at + 128 * t.stack → Ready writes made_now p (length new)
       turn_ready f = next_ready g.going room made_now behind left_is (omega arith)
 
-      pub turn_made : {p m : ℕ} {newer : List ℕ} {u : Taken} → p ≡ at + 128 * t.stack → Makes writes made_now p new newer (CountResult.Records m) → u ≡ behind_one b t
+      pub turn_made : {p m : ℕ} {newer : List ℕ} {u : Taken} → p ≡ at + 128 * t.stack → Makes writes made_now p new newer (Ok m) → u ≡ behind_one b t
           → Passing writes n from at old (left - 1) (cell + width) u newer
       turn_made {p} {m} {newer} f made k =
           let l : left ≡ suc (left - 1) = omega arith in
@@ -100,11 +103,11 @@ module _ {A : Type 0} {float : A → Bool} {one : ℕ → A → Result (List Ins
                 (next g.going room made_now behind left_is (omega arith) made);
           })
 
-      pub turn_refused : {p m : ℕ} {newer : List ℕ} → Makes writes made_now p new newer (CountResult.Refused m)
-          → Makes writes (all 0 (excess float 0 0 (items n from))) at old newer (CountResult.Refused m)
+      pub turn_refused : {p : ℕ} {m : Refusal} {newer : List ℕ} → Makes writes made_now p new newer (Err m)
+          → Makes writes (all 0 (excess float 0 0 (items n from))) at old newer (Err m)
       turn_refused made = stops g.going room made_now behind left_is made
 
-    pub all_passed : left ≤ 0 → Makes writes (all 0 (excess float 0 0 (items n from))) at old new (CountResult.Records (2 * t.stack))
+    pub all_passed : left ≤ 0 → Makes writes (all 0 (excess float 0 0 (items n from))) at old new (Ok (2 * t.stack))
     unfolding excess
     all_passed h =
         let e : left ≡ 0 = omega arith in

@@ -7,21 +7,31 @@ use native.Mathlib.Omega.{arith}
 use lib.ListN.{length, length-append}
 use Rattle.cells.specs.Cells.{write}
 use Rattle.ir.specs.Types.{Result, ok, refused}
+use Rattle.ir.specs.Answers.{says}
 use Rattle.codegen.proofs.Results.{never}
 use Rattle.x86.specs.declared.enums.Instruction.{Instruction}
 use Rattle.x86.specs.Records.{list_bytes}
 use Rattle.x86.proofs.Lists.{both, none, wrote_length}
-use Rattle.utils.specs.declared.CountResult.{CountResult}
+use Rattle.std.specs.Prelude.{Ok, Err}
+use Rattle.std.specs.Result.{IsErrAnd}
+use Rattle.std.proofs.lemmas.Result.{err_from_is_err_and}
+use Rattle.std.specs.Prelude as std
+use Rattle.cells.specs.declared.refusals.Refusal.{Refusal}
+use Rattle.cells.specs.Refusals.{number_of_refusal}
 use Rattle.utils.specs.Makes.{listed, after, Makes, Fits, Ready, before, then}
 
 -- what an answer says, by its case
-pub told : {R A : Type 0} (says : R → Result A) {r q : R} {x : Result A} → says r ≡ x → r ≡ q → x ≡ says q
-told says e h = sym e ∙ ap says h
+pub told : {A : Type 0} {r q : std.Result A Refusal} {x : Result A} → says r ≡ x → r ≡ q → x ≡ says q
+told e h = sym e ∙ ap says h
 
-pub no_list : {list : Result (List Instruction)} {n : ℕ} {writes : Bool} {at : ℕ} {old : List ℕ} → list ≡ refused n → Makes writes list at old old (CountResult.Refused n)
+-- what the exit of a `?` returns
+pub exit_is : {A : Type 0} {r : std.Result A Refusal} {e : Refusal} → IsErrAnd r (λ y. y ≡ e) → r ≡ Err e
+exit_is {A} {r} h = let p = err_from_is_err_and r h in p.1 ∙ ap Err p.2
+
+pub no_list : {list : Result (List Instruction)} {n : Refusal} {writes : Bool} {at : ℕ} {old : List ℕ} → list ≡ refused (number_of_refusal n) → Makes writes list at old old (Err n)
 no_list {list} {n} {writes} {at} {old} l = go writes
   where
-    go : (b : Bool) → Makes b list at old old (CountResult.Refused n)
+    go : (b : Bool) → Makes b list at old old (Err n)
     go true = record { says = rw l; bytes = rw l }
     go false = record { says = rw l; bytes = refl }
 
@@ -35,20 +45,20 @@ module _ {A : Type 0} {look : Result A} {list : Result (List Instruction)} (f : 
   has_room {a} e g w = rw (is_list e) at (g.room w)
 
   pub makes : {a : A} {writes : Bool} {at : ℕ} {old new : List ℕ} → look ≡ ok a → writes ≡ true → new ≡ write old at (list_bytes (f a))
-      → Makes writes list at old new (CountResult.Records (length (f a)))
+      → Makes writes list at old new (Ok (length (f a)))
   makes e w b = record { says = rw (is_list e); bytes = rw (w, is_list e) b }
 
-  pub counts : {a : A} {writes : Bool} {at : ℕ} {old : List ℕ} → look ≡ ok a → writes ≡ false → Makes writes list at old old (CountResult.Records (length (f a)))
+  pub counts : {a : A} {writes : Bool} {at : ℕ} {old : List ℕ} → look ≡ ok a → writes ≡ false → Makes writes list at old old (Ok (length (f a)))
   counts e w = record { says = rw (is_list e); bytes = rw w }
 
-  pub refuses : {n : ℕ} {writes : Bool} {at : ℕ} {old : List ℕ} → look ≡ refused n → Makes writes list at old old (CountResult.Refused n)
+  pub refuses : {n : Refusal} {writes : Bool} {at : ℕ} {old : List ℕ} → look ≡ refused (number_of_refusal n) → Makes writes list at old old (Err n)
   refuses e = no_list (rw e at h)
 
 -- the same under another name
 pub ready_as : {writes : Bool} {list other : Result (List Instruction)} {at n : ℕ} → list ≡ other → Ready writes list at n → Ready writes other at n
 ready_as e h = rw e at h
 
-pub makes_as : {writes : Bool} {list other : Result (List Instruction)} {at : ℕ} {old new : List ℕ} {r : CountResult} → list ≡ other → Makes writes other at old new r
+pub makes_as : {writes : Bool} {list other : Result (List Instruction)} {at : ℕ} {old new : List ℕ} {r : std.Result ℕ Refusal} → list ≡ other → Makes writes other at old new r
     → Makes writes list at old new r
 makes_as e h = rw e h
 
@@ -107,7 +117,7 @@ module _ {writes : Bool} {whole left : Result (List Instruction)} {at k : ℕ} {
   next_ready r rest e f = record { room = λ w. rw (f, same_long) (first_fits r rest (at + 64 * k) (length old) (rw e at (left_fits w))) }
 
   -- it has made its records, n of them
-  pub next : (r rest : Result (List Instruction)) {p n : ℕ} {newer : List ℕ} → left ≡ then r rest → p ≡ at + 64 * k → Makes writes r p new newer (CountResult.Records n)
+  pub next : (r rest : Result (List Instruction)) {p n : ℕ} {newer : List ℕ} → left ≡ then r rest → p ≡ at + 64 * k → Makes writes r p new newer (Ok n)
       → Going writes whole at old rest (k + n) newer
   next (ok is) rest {p} {n} {newer} e f m =
       let l : n ≡ length is = let z = m.says in cc in
@@ -126,8 +136,8 @@ module _ {writes : Bool} {whole left : Result (List Instruction)} {at k : ℕ} {
   next (refused q) rest e f m = absurd (never (sym m.says))
 
   -- it has refused: no byte was written, since there is room only for a list
-  pub stops : (r rest : Result (List Instruction)) {p n : ℕ} {newer : List ℕ} → left ≡ then r rest → Makes writes r p new newer (CountResult.Refused n)
-      → Makes writes whole at old newer (CountResult.Refused n)
+  pub stops : (r rest : Result (List Instruction)) {p : ℕ} {n : Refusal} {newer : List ℕ} → left ≡ then r rest → Makes writes r p new newer (Err n)
+      → Makes writes whole at old newer (Err n)
   stops (ok is) rest e m = absurd (never m.says)
   stops (refused q) rest {p} {n} {newer} e m =
       let w : whole ≡ refused q = g.is ∙ ap (before g.made) e in
@@ -138,7 +148,7 @@ module _ {writes : Bool} {whole left : Result (List Instruction)} {at k : ℕ} {
       go false w = rw w at m.bytes ∙ rw w at g.bytes
 
   -- nothing is left
-  pub finishes : left ≡ ok [] → Makes writes whole at old new (CountResult.Records k)
+  pub finishes : left ≡ ok [] → Makes writes whole at old new (Ok k)
   finishes e =
       let w : whole ≡ ok g.made = g.is ∙ ap (before g.made) e ∙ ap ok (append-nil g.made) in
       record { says = rw (w, g.count); bytes = rw w g.bytes }

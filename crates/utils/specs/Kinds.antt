@@ -4,14 +4,17 @@ use Rattle.ir.specs.Types.{Result, ok, refused, ◌>>=◌, type_size, is_float, 
 use Rattle.codegen.specs.Instructions as spec
 use Rattle.codegen.specs.Instructions.{kind}
 use Rattle.utils.specs.declared.kinds.Kind.{Kind}
-use Rattle.utils.specs.declared.kinds.KindResult.{KindResult}
+use Rattle.std.specs.Prelude.{Ok, Err}
+use Rattle.std.specs.Prelude as std
+use Rattle.cells.specs.declared.refusals.Refusal.{Refusal}
+use Rattle.cells.specs.Refusals.{number_of_refusal}
 
 abbrev pub kind_says : Kind → spec.Kind
 kind_says k = kind k.size k.float k.unsigned
 
-abbrev pub kind_result_says : KindResult → Result spec.Kind
-kind_result_says (KindResult.Is k) = ok (kind_says k)
-kind_result_says (KindResult.Refused n) = refused n
+abbrev pub kind_result_says : std.Result Kind Refusal → Result spec.Kind
+kind_result_says (Ok k) = ok (kind_says k)
+kind_result_says (Err r) = refused (number_of_refusal r)
 
 -- `operand_kind` of a variable
 abbrev pub var_kind : VarId → Result spec.Kind

@@ -4,8 +4,10 @@ use Rattle.cells.specs.Cells.{write}
 use Rattle.ir.specs.Types.{Result, ok, refused}
 use Rattle.x86.specs.declared.enums.Instruction.{Instruction}
 use Rattle.x86.specs.Records.{list_bytes}
-use Rattle.utils.specs.declared.CountResult.{CountResult}
-use Rattle.utils.specs.Answers.{count_says, counted}
+use Rattle.std.specs.Prelude as std
+use Rattle.cells.specs.declared.refusals.Refusal.{Refusal}
+use Rattle.ir.specs.Answers as answer
+use Rattle.utils.specs.Answers.{counted}
 
 -- a record alone
 abbrev pub alone : Result Instruction → Result (List Instruction)
@@ -23,8 +25,8 @@ after (ok is) at old = write old at (list_bytes is)
 after (refused n) at old = old
 
 -- how many records, or which refusal; and the bytes afterwards, which change only where it writes
-pub record Makes (writes : Bool) (list : Result (List Instruction)) (at : ℕ) (old new : List ℕ) (r : CountResult) : Type 0 where
-  pub says : count_says r ≡ counted list
+pub record Makes (writes : Bool) (list : Result (List Instruction)) (at : ℕ) (old new : List ℕ) (r : std.Result ℕ Refusal) : Type 0 where
+  pub says : answer.says r ≡ counted list
   pub bytes : new ≡ cond writes (after list at old) old
 
 -- there is a list, and room for it

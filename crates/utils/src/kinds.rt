@@ -1,25 +1,19 @@
 // This is `operand_kind` of Krc's codegen/instructions.rs: an operand's size, whether it is a float, and whether it is unsigned.
 ghost use Rattle.std.specs.Prelude.{◌≡◌, cond};
 ghost use Rattle.codegen.specs.Instructions.{operand_kind};
-ghost use Rattle.utils.specs.Answers.{lent};
+ghost use Rattle.utils.specs.Answers.{held};
 ghost use Rattle.utils.specs.Kinds.{kind_result_says, var_kind};
 
-use crate::{BoolResult, float_short};
-use ir::types::Number;
+use crate::context::Context;
+use cells::refusals::Refusal;
 use ir::{Operand as IrOp, VarId};
 
 // It has the size in bytes of an operand's value, whether it is a float, and whether it is unsigned.
-#[derive(Clone, Copy)]
+#[derive(Clone, Copy, Debug, PartialEq, Eq)]
 pub struct Kind {
     pub size: u64,
     pub float: bool,
     pub unsigned: bool,
-}
-
-#[derive(Clone, Copy)]
-pub enum KindResult {
-    Is(Kind),
-    Refused(u64),
 }
 
 // A constant has its size by its flag.
@@ -29,57 +23,31 @@ fn constant_size(short: bool) -> u64
     if short { 4 } else { 8 }
 }
 
-fn var_kind(v: VarId) -> KindResult
+fn var_kind(v: VarId) -> Result<Kind, Refusal>
     ensures { kind_result_says result ≡ var_kind v }
 {
-    let ty = v.ty;
-    match ty.size() {
-        Number::Is(size) => KindResult::Is(Kind {
-            size,
-            float: ty.is_float(),
-            unsigned: ty.is_unsigned(),
-        }),
-        Number::Refused(n) => KindResult::Refused(n),
-    }
+    Ok(Kind {
+        size: v.ty.size()?,
+        float: v.ty.is_float(),
+        unsigned: v.ty.is_unsigned(),
+    })
 }
 
-pub fn operand_kind(tables: &[u8], offsets: &[u64], op: IrOp) -> KindResult
-    ensures { kind_result_says result ≡ operand_kind (lent tables.now offsets.now) op }
+// A float constant is looked up in the tables.
+#[tactic(auto, unfolding(codegen::specs::Instructions::operand_kind))]
+pub fn operand_kind(context: &Context, op: IrOp) -> Result<Kind, Refusal>
+    ensures { kind_result_says result ≡ operand_kind (held context.now) op }
 {
-    match op {
-        IrOp::Var(v) => var_kind(v),
-        IrOp::Int(_, short, unsigned) => KindResult::Is(Kind {
-            size: constant_size(short),
-            float: false,
-            unsigned,
-        }),
-        IrOp::Float(k) => match float_short(tables, offsets, k) {
-            BoolResult::Is(short) => KindResult::Is(Kind {
-                size: constant_size(short),
-                float: true,
-                unsigned: false,
-            }),
-            BoolResult::Refused(n) => KindResult::Refused(n),
-        },
-        IrOp::Bool(_) => KindResult::Is(Kind {
-            size: 1,
-            float: false,
-            unsigned: true,
-        }),
-        IrOp::Address(_) => KindResult::Is(Kind {
-            size: 8,
-            float: false,
-            unsigned: true,
-        }),
-        IrOp::DataAddress(_) => KindResult::Is(Kind {
-            size: 8,
-            float: false,
-            unsigned: true,
-        }),
-        IrOp::Null => KindResult::Is(Kind {
-            size: 8,
-            float: false,
-            unsigned: true,
-        }),
-    }
+    let (size, float, unsigned) = match op {
+        IrOp::Var(v) => return var_kind(v),
+        IrOp::Int(_, short, unsigned) => (constant_size(short), false, unsigned),
+        IrOp::Float(k) => (constant_size(context.float_short(k)?), true, false),
+        IrOp::Bool(_) => (1, false, true),
+        IrOp::Address(_) | IrOp::DataAddress(_) | IrOp::Null => (8, false, true),
+    };
+    Ok(Kind {
+        size,
+        float,
+        unsigned,
+    })
 }

@@ -1,14 +1,18 @@
 // A variable that is stored to has a slot and a size.
-ghost use Rattle.std.specs.Prelude.{◌≡◌, ◌+◌, ◌≤◌};
-ghost use Rattle.cells.specs.Cells.{cells};
-ghost use Rattle.ir.specs.Function.{var_at};
-ghost use Rattle.utils.specs.Answers.{lent};
-ghost use Rattle.utils.specs.Slots.{slot_says, look_slot};
+ghost use Rattle.std.specs.Prelude.{◌≡◌, ◌+◌, ◌≤◌, length};
+ghost use Rattle.cells.specs.Cells.{write};
+ghost use Rattle.x86.specs.Records.{list_bytes};
+ghost use Rattle.ir.specs.Answers.{says};
+ghost use Rattle.utils.specs.Answers.{held};
+ghost use Rattle.utils.specs.Slots.{look_slot, moved_of};
 
-use crate::{OperandResult, SizeResult, convert_var, var_size};
+use crate::context::Context;
+use crate::{convert_var, mov, put_load, var_size};
+use cells::refusals::Refusal;
 use ir::VarId;
-use ir::read::var_at;
+use records::put_instruction;
 use x86::enums::{Operand, Size};
+use x86::register::Register;
 
 #[derive(Clone, Copy)]
 pub struct Slot {
@@ -16,30 +20,32 @@ pub struct Slot {
     pub size: Size,
 }
 
+// Of a binary operation the look-ups find what its operands are loaded from, or what right is converted to, and dest.
 #[derive(Clone, Copy)]
-pub enum SlotResult {
-    Is(Slot),
-    Refused(u64),
+pub struct Sides {
+    pub left: Operand,
+    pub right: Operand,
+    pub dest: Slot,
 }
 
 // The slot is looked up before its size.
-pub fn look_slot(tables: &[u8], offsets: &[u64], v: VarId) -> SlotResult
-    ensures { slot_says result ≡ look_slot (lent tables.now offsets.now) v }
+pub fn look_slot(context: &Context, v: VarId) -> Result<Slot, Refusal>
+    ensures { says result ≡ look_slot (held context.now) v }
 {
-    let var = match convert_var(tables, offsets, v) {
-        OperandResult::Is(var) => var,
-        OperandResult::Refused(n) => return SlotResult::Refused(n),
-    };
-    match var_size(v) {
-        SizeResult::Is(size) => SlotResult::Is(Slot { var, size }),
-        SizeResult::Refused(n) => SlotResult::Refused(n),
-    }
+    let var = convert_var(context, v)?;
+    let size = var_size(v)?;
+    Ok(Slot { var, size })
 }
 
-// It does the same for the variable at a cell of the sheet.
-pub fn look_slot_at(tables: &[u8], offsets: &[u64], s: &[u8], k: usize) -> SlotResult
-    requires { k + 3 ≤ cells s.now }
-    ensures { slot_says result ≡ look_slot (lent tables.now offsets.now) (var_at s.now k) }
+// It loads a source by the size `by`, and stores RAX to a slot.
+pub fn put_moved(out: &mut [u8], at: usize, src: Operand, by: Size, slot: Slot)
+    requires { at + 128 ≤ length out.old }
+    ensures { out.new ≡ write out.old at (list_bytes (moved_of src by slot)) }
 {
-    look_slot(tables, offsets, var_at(s, k))
+    put_load(out, at, Register::RAX, src, by);
+    put_instruction(
+        out,
+        at + 64,
+        mov(slot.var, Operand::Reg(Register::RAX), slot.size),
+    );
 }

@@ -28,14 +28,6 @@ size_code Size.U16 = 2
 size_code Size.U32 = 4
 size_code Size.U64 = 8
 
--- its position in Krc's `Size`, counted from 1
-abbrev pub size_position : Size → ℕ
-size_position Size.NoSize = 0
-size_position Size.U8 = 1
-size_position Size.U16 = 2
-size_position Size.U32 = 3
-size_position Size.U64 = 4
-
 -- 5 RBP plus value, 6 string, 7 float, 8 RSP plus value
 abbrev pub base_tag : Base → ℕ
 base_tag Base.Rbp = 5

@@ -1,43 +1,30 @@
-// Here are sizes, operands, operations and instructions. A code is a position in Krc's enum.
+// Here are sizes, operands, operations and instructions. The number of a variant is its code: a position in Krc's enum, and of a size its bytes.
 ghost use Rattle.std.specs.Prelude.{◌≡◌, ◌<◌};
-ghost use Rattle.x86.specs.Records.{size_position, size_code, tag_of, value_of, condition_code, bin_code, shift_code, complex_code, unary_code, stack_code, ctrl_code, prefix_code, string_code, extend_code, conv_code};
+ghost use Rattle.x86.specs.Records.{size_code, tag_of, value_of, condition_code, bin_code, shift_code, complex_code, unary_code, stack_code, ctrl_code, prefix_code, string_code, extend_code, conv_code};
 ghost use Rattle.x86.specs.Decode.{condition_of};
 
 use crate::mem_address::MemAddress;
 use crate::register::Register;
 
 // This is Krc's `Option<Size>`.
-#[derive(Clone, Copy)]
+#[derive(Clone, Copy, Debug, PartialEq, Eq)]
 pub enum Size {
-    NoSize,
-    U8,
-    U16,
-    U32,
-    U64,
+    NoSize = 0,
+    U8 = 1,
+    U16 = 2,
+    U32 = 4,
+    U64 = 8,
 }
 
-impl Size {
-    fn position(self) -> u64
-        ensures { (result ≡ size_position self) × (result < 5) }
-    {
-        match self {
-            Size::NoSize => 0,
-            Size::U8 => 1,
-            Size::U16 => 2,
-            Size::U32 => 3,
-            Size::U64 => 4,
-        }
-    }
+impl From<Size> for u64 {
+    ghost from_gives = { λ size n. n ≡ size_code size };
 
-    // It is 0, 1, 2, 4 or 8, with no table: what puts a record is small enough to vanish where it is called.
-    pub fn code(self) -> u64
-        ensures { result ≡ size_code self }
-    {
-        (1 << self.position()) / 2
+    fn from(size: Size) -> u64 {
+        size as u64
     }
 }
 
-#[derive(Clone, Copy)]
+#[derive(Clone, Copy, Debug, PartialEq, Eq)]
 pub enum Operand {
     NoOperand,
     Reg(Register),
@@ -57,10 +44,7 @@ impl Operand {
             Operand::Imm(_) => 2,
             Operand::Sym(_) => 3,
             Operand::Label(_) => 4,
-            Operand::MemoryAddress(a) => {
-                let base = a.base;
-                base.tag()
-            }
+            Operand::MemoryAddress(a) => u64::from(a.base),
         }
     }
 
@@ -78,46 +62,35 @@ impl Operand {
     }
 }
 
-#[derive(Clone, Copy)]
+#[derive(Clone, Copy, Debug, PartialEq, Eq)]
 pub enum ConditionCode {
-    E,
-    NE,
-    G,
-    GE,
-    L,
-    LE,
-    A,
-    AE,
-    B,
-    BE,
-    P,
-    NP,
+    E = 0,
+    NE = 1,
+    G = 2,
+    GE = 3,
+    L = 4,
+    LE = 5,
+    A = 6,
+    AE = 7,
+    B = 8,
+    BE = 9,
+    P = 14,
+    NP = 15,
 }
 
-impl ConditionCode {
-    pub fn code(self) -> u64
-        ensures { (result ≡ condition_code self) × (result < 16) }
-    {
-        match self {
-            ConditionCode::E => 0,
-            ConditionCode::NE => 1,
-            ConditionCode::G => 2,
-            ConditionCode::GE => 3,
-            ConditionCode::L => 4,
-            ConditionCode::LE => 5,
-            ConditionCode::A => 6,
-            ConditionCode::AE => 7,
-            ConditionCode::B => 8,
-            ConditionCode::BE => 9,
-            ConditionCode::P => 14,
-            ConditionCode::NP => 15,
-        }
-    }
+impl From<ConditionCode> for u64 {
+    ghost from_gives = { λ cc n. (n ≡ condition_code cc) × (n < 16) };
 
-    // This is the way back from `code`; a number that no code has gives NP.
-    pub fn of(number: u64) -> ConditionCode
-        ensures { result ≡ condition_of number }
-    {
+    fn from(cc: ConditionCode) -> u64 {
+        cc as u64
+    }
+}
+
+// This is the way back; a number that no code has gives NP.
+impl From<u64> for ConditionCode {
+    ghost from_gives = { λ number cc. cc ≡ condition_of number };
+
+    fn from(number: u64) -> ConditionCode {
         match number {
             0 => ConditionCode::E,
             1 => ConditionCode::NE,
@@ -135,135 +108,99 @@ impl ConditionCode {
     }
 }
 
-// These are the first nineteen of Krc's twenty-five operations, up to the last that the lowering names, so that a code is a position and needs no table.
-#[derive(Clone, Copy)]
+// These are the first nineteen of Krc's twenty-five operations, up to the last that the lowering names.
+#[derive(Clone, Copy, Debug, PartialEq, Eq)]
 pub enum BinOp {
-    Mov,
-    Xchg,
-    Add,
-    Sub,
-    Adc,
-    Sbb,
-    And,
-    Or,
-    Xor,
-    Cmp,
-    Test,
-    LoadF,
-    StoreF,
-    AddF,
-    SubF,
-    MulF,
-    DivF,
-    ComiF,
-    UcomiF,
+    Mov = 0,
+    Xchg = 1,
+    Add = 2,
+    Sub = 3,
+    Adc = 4,
+    Sbb = 5,
+    And = 6,
+    Or = 7,
+    Xor = 8,
+    Cmp = 9,
+    Test = 10,
+    LoadF = 11,
+    StoreF = 12,
+    AddF = 13,
+    SubF = 14,
+    MulF = 15,
+    DivF = 16,
+    ComiF = 17,
+    UcomiF = 18,
 }
 
-impl BinOp {
-    pub fn code(self) -> u64
-        ensures { result ≡ bin_code self }
-    {
-        match self {
-            BinOp::Mov => 0,
-            BinOp::Xchg => 1,
-            BinOp::Add => 2,
-            BinOp::Sub => 3,
-            BinOp::Adc => 4,
-            BinOp::Sbb => 5,
-            BinOp::And => 6,
-            BinOp::Or => 7,
-            BinOp::Xor => 8,
-            BinOp::Cmp => 9,
-            BinOp::Test => 10,
-            BinOp::LoadF => 11,
-            BinOp::StoreF => 12,
-            BinOp::AddF => 13,
-            BinOp::SubF => 14,
-            BinOp::MulF => 15,
-            BinOp::DivF => 16,
-            BinOp::ComiF => 17,
-            BinOp::UcomiF => 18,
-        }
+impl From<BinOp> for u64 {
+    ghost from_gives = { λ op n. n ≡ bin_code op };
+
+    fn from(op: BinOp) -> u64 {
+        op as u64
     }
 }
 
-#[derive(Clone, Copy)]
+#[derive(Clone, Copy, Debug, PartialEq, Eq)]
 pub enum ShiftOp {
-    Shl,
-    Shr,
-    Sar,
+    Shl = 0,
+    Shr = 1,
+    Sar = 2,
 }
 
-impl ShiftOp {
-    pub fn code(self) -> u64
-        ensures { result ≡ shift_code self }
-    {
-        match self {
-            ShiftOp::Shl => 0,
-            ShiftOp::Shr => 1,
-            ShiftOp::Sar => 2,
-        }
+impl From<ShiftOp> for u64 {
+    ghost from_gives = { λ op n. n ≡ shift_code op };
+
+    fn from(op: ShiftOp) -> u64 {
+        op as u64
     }
 }
 
-#[derive(Clone, Copy)]
+#[derive(Clone, Copy, Debug, PartialEq, Eq)]
 pub enum ComplexBinOp {
-    Div,
-    Imul,
-    Idiv,
+    Div = 3,
+    Imul = 4,
+    Idiv = 5,
 }
 
-impl ComplexBinOp {
-    pub fn code(self) -> u64
-        ensures { result ≡ complex_code self }
-    {
-        match self {
-            ComplexBinOp::Div => 3,
-            ComplexBinOp::Imul => 4,
-            ComplexBinOp::Idiv => 5,
-        }
+impl From<ComplexBinOp> for u64 {
+    ghost from_gives = { λ op n. n ≡ complex_code op };
+
+    fn from(op: ComplexBinOp) -> u64 {
+        op as u64
     }
 }
 
-#[derive(Clone, Copy)]
+#[derive(Clone, Copy, Debug, PartialEq, Eq)]
 pub enum UnaryOp {
-    Neg,
-    Not,
-    Cdq,
-    Cqo,
+    Neg = 0,
+    Not = 1,
+    Cdq = 5,
+    Cqo = 6,
 }
 
-impl UnaryOp {
-    pub fn code(self) -> u64
-        ensures { result ≡ unary_code self }
-    {
-        match self {
-            UnaryOp::Neg => 0,
-            UnaryOp::Not => 1,
-            UnaryOp::Cdq => 5,
-            UnaryOp::Cqo => 6,
-        }
+impl From<UnaryOp> for u64 {
+    ghost from_gives = { λ op n. n ≡ unary_code op };
+
+    fn from(op: UnaryOp) -> u64 {
+        op as u64
     }
 }
 
-#[derive(Clone, Copy)]
+#[derive(Clone, Copy, Debug, PartialEq, Eq)]
 pub enum StackOp {
-    Push,
-    Pop,
+    Push = 0,
+    Pop = 1,
 }
 
-impl StackOp {
-    pub fn code(self) -> u64
-        ensures { result ≡ stack_code self }
-    {
-        match self {
-            StackOp::Push => 0,
-            StackOp::Pop => 1,
-        }
+impl From<StackOp> for u64 {
+    ghost from_gives = { λ op n. n ≡ stack_code op };
+
+    fn from(op: StackOp) -> u64 {
+        op as u64
     }
 }
 
-#[derive(Clone, Copy)]
+#[derive(Clone, Copy, Debug, PartialEq, Eq)]
 pub enum CtrlOp {
     Jmp,
     Call,
@@ -271,94 +208,80 @@ pub enum CtrlOp {
     JmpCC(ConditionCode),
 }
 
-impl CtrlOp {
-    // The code is 16 times the outer code plus the inner one, where there is an inner one.
-    pub fn code(self) -> u64
-        ensures { result ≡ ctrl_code self }
-    {
-        match self {
+// The code is 16 times the outer code plus the inner one, where there is an inner one.
+impl From<CtrlOp> for u64 {
+    ghost from_gives = { λ op n. n ≡ ctrl_code op };
+
+    fn from(op: CtrlOp) -> u64 {
+        match op {
             CtrlOp::Jmp => 0,
             CtrlOp::Call => 1,
             CtrlOp::Ret => 2,
-            CtrlOp::JmpCC(cc) => 64 + cc.code(),
+            CtrlOp::JmpCC(cc) => 64 + u64::from(cc),
         }
     }
 }
 
-#[derive(Clone, Copy)]
+#[derive(Clone, Copy, Debug, PartialEq, Eq)]
 pub enum StringOp {
-    Stos,
+    Stos = 4,
 }
 
-impl StringOp {
-    pub fn code(self) -> u64
-        ensures { (result ≡ string_code self) × (result < 16) }
-    {
-        match self {
-            StringOp::Stos => 4,
-        }
+impl From<StringOp> for u64 {
+    ghost from_gives = { λ op n. (n ≡ string_code op) × (n < 16) };
+
+    fn from(op: StringOp) -> u64 {
+        op as u64
     }
 }
 
-#[derive(Clone, Copy)]
+#[derive(Clone, Copy, Debug, PartialEq, Eq)]
 pub enum Prefix {
-    Rep,
+    Rep = 1,
 }
 
-impl Prefix {
-    pub fn code(self) -> u64
-        ensures { (result ≡ prefix_code self) × (result < 16) }
-    {
-        match self {
-            Prefix::Rep => 1,
-        }
+impl From<Prefix> for u64 {
+    ghost from_gives = { λ prefix n. (n ≡ prefix_code prefix) × (n < 16) };
+
+    fn from(prefix: Prefix) -> u64 {
+        prefix as u64
     }
 }
 
-#[derive(Clone, Copy)]
+#[derive(Clone, Copy, Debug, PartialEq, Eq)]
 pub enum ExtendOp {
-    Movsxd,
-    Movzx,
+    Movsxd = 1,
+    Movzx = 2,
 }
 
-impl ExtendOp {
-    pub fn code(self) -> u64
-        ensures { result ≡ extend_code self }
-    {
-        match self {
-            ExtendOp::Movsxd => 1,
-            ExtendOp::Movzx => 2,
-        }
+impl From<ExtendOp> for u64 {
+    ghost from_gives = { λ op n. n ≡ extend_code op };
+
+    fn from(op: ExtendOp) -> u64 {
+        op as u64
     }
 }
 
-#[derive(Clone, Copy)]
+#[derive(Clone, Copy, Debug, PartialEq, Eq)]
 pub enum ConvOp {
-    Cvtsd2ss,
-    Cvtsi2sd,
-    Cvtsi2ss,
-    Cvtss2sd,
-    Cvttsd2si,
-    Cvttss2si,
+    Cvtsd2ss = 1,
+    Cvtsi2sd = 2,
+    Cvtsi2ss = 3,
+    Cvtss2sd = 4,
+    Cvttsd2si = 6,
+    Cvttss2si = 7,
 }
 
-impl ConvOp {
-    pub fn code(self) -> u64
-        ensures { result ≡ conv_code self }
-    {
-        match self {
-            ConvOp::Cvtsd2ss => 1,
-            ConvOp::Cvtsi2sd => 2,
-            ConvOp::Cvtsi2ss => 3,
-            ConvOp::Cvtss2sd => 4,
-            ConvOp::Cvttsd2si => 6,
-            ConvOp::Cvttss2si => 7,
-        }
+impl From<ConvOp> for u64 {
+    ghost from_gives = { λ op n. n ≡ conv_code op };
+
+    fn from(op: ConvOp) -> u64 {
+        op as u64
     }
 }
 
 // Krc's `Prefix` holds a boxed instruction; here it holds the string operation that it repeats.
-#[derive(Clone, Copy)]
+#[derive(Clone, Copy, Debug, PartialEq, Eq)]
 pub enum Instruction {
     Binary {
         op: BinOp,

@@ -4,8 +4,8 @@ use Rattle.text.proofs.put_ok.Goals as goal
 
 pub put_byte-requires : goal.put_byte-requires
 put_byte-requires c =
-    omega (arith, digits_end _ _ c.put_digits-end.ensures, c.put_digits-end.auto.out, c.put_word-number.ensures.behind, c.put_word-number.auto.out, c.requires)
+    omega (arith, digits_end _ _ c.put_digits-end.ensures, c.put_digits-end.auto.out, c.put_bytes-number.ensures.behind, c.put_bytes-number.auto.out, c.requires)
 
 pub returns : goal.returns
 returns c =
-    ok_put _ c.requires c.put_word-number.ensures c.put_digits-end.ensures c.put_byte.ensures
+    ok_put _ c.requires c.put_bytes-number.ensures c.put_digits-end.ensures c.put_byte.ensures

@@ -8,8 +8,8 @@ use Rattle.text.proofs.refused_text.Goals as goal
 -- how far the text is behind each piece, and that the bytes are as many as they were
 number_end : (c : After-put_digits-blank) → (c.put_digits-blank.result ≤ 28) × (50 ≤ length c.put_digits-blank.new.out)
 number_end c = (
-  omega (arith, digits_end _ _ c.put_digits-blank.ensures, c.put_word-number.ensures.behind),
-  omega (arith, c.put_digits-blank.auto.out, c.put_word-number.auto.out, c.requires),
+  omega (arith, digits_end _ _ c.put_digits-blank.ensures, c.put_bytes-number.ensures.behind),
+  omega (arith, c.put_digits-blank.auto.out, c.put_bytes-number.auto.out, c.requires),
 )
 
 blank_end : (c : After-put_byte-second) → (c.put_digits-blank.result ≤ 28) × (50 ≤ length c.put_digits-blank.new.out) →
@@ -41,5 +41,5 @@ put_byte-requires c =
 
 pub returns : goal.returns
 returns c =
-    refused_put _ _ c.requires c.put_word-number.ensures c.put_digits-blank.ensures c.put_byte-second.ensures
+    refused_put _ _ c.requires c.put_bytes-number.ensures c.put_digits-blank.ensures c.put_byte-second.ensures
     c.put_digits-end.ensures c.put_byte.ensures

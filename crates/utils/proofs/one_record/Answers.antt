@@ -2,15 +2,9 @@ use mathlib.Core.Path.{refl}
 use Rattle.x86.proofs.Lists.{first, done, puts}
 use Rattle.utils.proofs.one_record.Goals as goal
 
-pub put_other-requires : goal.put_other-requires
-put_other-requires c = c.requires.room c.if-write.true
-
 pub returns-then-write : goal.returns-then-write
 returns-then-write c =
     record {
       says = refl;
       bytes = rw c.if-write.true (puts (first c.put_other.ensures done) (c.requires.room c.if-write.true));
     }
-
-pub returns-else-write : goal.returns-else-write
-returns-else-write c = record { says = refl; bytes = rw c.if-write.false }

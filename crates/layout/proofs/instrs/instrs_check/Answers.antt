@@ -1,22 +1,7 @@
-use native.Mathlib.Omega.{arith}
-use mathlib.Core.Path.{refl}
+use Rattle.std.proofs.Common.{rules, refl}
 use Rattle.layout.specs.Layout.{instrs_in}
-use Rattle.layout.proofs.Turns.{goes_on, stops, ends}
 use Rattle.layout.proofs.instrs.instrs_check.Goals as goal
-
-pub loop-left-init : goal.loop-left-init
-loop-left-init c = record { is = refl }
-
-pub returns-in-Refused : goal.returns-in-Refused
-unfolding instrs_in
-returns-in-Refused c =
-    stops _ _ c.loop-left.invariant (omega (arith, c.loop-left-test.true)) (simp (← c.instr_check.ensures, c.in-Refused.is))
-
-pub loop-left-preserved : goal.loop-left-preserved
-unfolding instrs_in
-loop-left-preserved c =
-    goes_on _ _ c.loop-left.invariant _ (omega (arith, c.loop-left-test.true)) (simp (← c.instr_check.ensures, c.in-Behind.is))
 
 pub returns : goal.returns
 unfolding instrs_in
-returns c = ends _ _ c.loop-left.invariant (omega (arith, c.loop-left-test.false)) refl
+returns c = c.each.ensures (instrs_in c.args.e c.args.s.now) (record { none = λ c. refl; more = λ n c x h. search rules })

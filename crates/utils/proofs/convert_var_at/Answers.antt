@@ -1,4 +1,0 @@
-use Rattle.utils.proofs.convert_var_at.Goals as goal
-
-pub returns : goal.returns
-returns c = cc

@@ -1,4 +1,0 @@
-use Rattle.utils.proofs.own_size_at.Goals as goal
-
-pub returns : goal.returns
-returns c = rw c.operand_at.ensures at c.own_size.ensures
