@@ -1,10 +1,7 @@
 -- How often each label stands: what has been counted and what is left are the whole.
-use Rattle.std.proofs.Common.{◌≡◌, ℕ, suc, ◌+◌, ◌-◌, ◌<◌, ◌≤◌, Bool, true, false, cond, eqb, leb, List, [], ◌∷◌, length, get_or, set, replicate, sym, refl, ap, ◌∙◌, arith, length-set, get_or-set_other, get_or-set_same, eqb-true, leb-true}
+use Rattle.std.proofs.Common.{◌≡◌, ℕ, suc, ◌+◌, ◌-◌, ◌<◌, ◌≤◌, Bool, true, false, cond, eqb, leb, List, [], ◌∷◌, length, get_or, set, replicate, sym, refl, ◌∙◌, arith, length-set, get_or-set_other, get_or-set_same, eqb-true, leb-true}
 use borrow.Author.Tests.{eqb-false}
 use lib.ListN.{length-replicate, get_or-replicate}
-use denote.Enum.Declared.{tag_of}
-use types.Run.{OneOf, miss}
-use Rattle.ir.specs.contracts.Instr as ir_instr
 use Rattle.ir.specs.declared.Instr.{Instr}
 use Rattle.cells.specs.Cells.{cells, cell_at}
 use Rattle.ir.specs.Function.{Line, instr_at, line_at, lines_at, behind, body_from, function_of}
@@ -13,7 +10,6 @@ use Rattle.machine.specs.Plain.{label_count}
 use Rattle.layout.specs.Layout.{Laid}
 use Rattle.plain.specs.Parts.{Counts, Few, one_more}
 use Rattle.layout.proofs.Walk.{Walk, has_few, walk_from, walk_here, walk_next}
-use Rattle.ir.proofs.Sheet.{lines_length, lines_more}
 
 -- ---- one instruction
 
@@ -145,8 +141,8 @@ module _ {s : List ℕ} {i cell : ℕ} {counts : List ℕ} (g : Counting s i cel
         before = line_at s cell ∷ g.before;
         walked = one_walked g.walked h;
         each = λ k.
-          let e = rw l at (g.each k) in
-          omega (arith, e, label_step k (line_at s cell) g.before, label_step k (line_at s cell) (lines_at s n (behind s cell)));
+            let e = rw l at (g.each k) in
+            omega (arith, e, label_step k (line_at s cell) g.before, label_step k (line_at s cell) (lines_at s n (behind s cell)));
       }
 
   pub all_counted : cell_at s 5 ≤ i → Counts (function_of s).body counts

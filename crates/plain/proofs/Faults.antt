@@ -2,7 +2,7 @@
 use Rattle.std.proofs.Common.{◌≡◌, ℕ, zero, suc, ◌+◌, ◌-◌, ◌<◌, ◌≤◌, true, false, ltb, List, [], ◌∷◌, replicate, take, refl, ap, Option, None, Some, le_of_suc-le-suc, add-one, arith, ltb-true}
 use Rattle.cells.specs.Cells.{cell_at}
 use Rattle.cells.proofs.Turns.{Turns, goes_on, stops, ends}
-use Rattle.ir.specs.Function.{Function, Line, instr_at, line_at, lines_at, behind, body_from, function_of}
+use Rattle.ir.specs.Function.{Line, instr_at, line_at, lines_at, behind, body_from, function_of}
 use Rattle.machine.specs.Plain.{every, is_plain_instr}
 use Rattle.machine.proofs.Tests.{both}
 use Rattle.layout.specs.Layout.{Laid}

@@ -17,7 +17,7 @@ module _ (test : ℕ → Bool) (whole : ℕ → ℕ → Bool) (b : ℕ) (none : 
 
   pub all_over : {F : Type 0} {g : Mut F (ℕ × Unit {0}) Bool} {s u : Range ℕ} {f : F} {r : Bool} (n a : ℕ) → a + n ≡ b → s ≡ record { start = a; end = b } →
       (xs : List ℕ) × (o : _) × (j : F) × YieldsThen nat_range_steps s xs o u × FoldsTo (λ p x q. Called g p (x, tt) true q) f xs j
-          × MatchOption o (r ≡ true) (λ x. (r ≡ false) × ((h : F) × Called g j (x, tt) false h)) →
+      × MatchOption o (r ≡ true) (λ x. (r ≡ false) × ((h : F) × Called g j (x, tt) false h)) →
       ((x : ℕ) (b : Bool) (q : F) → Called g f (x, tt) b q → (q ≡ f) × (b ≡ test x)) → r ≡ whole n a
   all_over {u = u} {f = f} {r = r} n a l e ran call =
       all_from_yields_List test u f r ran (YieldsList-from_range a b n e (omega arith)) call ∙ all_turns n a l

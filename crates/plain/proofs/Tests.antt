@@ -1,5 +1,5 @@
 -- A variable's entry, and the count of a label.
-use Rattle.std.proofs.Common.{◌≡◌, ℕ, ◌+◌, ◌*◌, ◌<◌, Bool, true, false, cond, ◌&&◌, ltb, List, get_or, refl, Some, None, ltb-true}
+use Rattle.std.proofs.Common.{◌≡◌, ℕ, ◌+◌, ◌*◌, Bool, true, false, cond, ◌&&◌, ltb, List, get_or, refl, Some, None, ltb-true}
 use Rattle.std.specs.Option.{option_eq}
 use Rattle.ir.specs.declared.VarId.{VarId}
 use Rattle.cells.specs.Cells.{cell_at}

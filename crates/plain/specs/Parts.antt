@@ -1,6 +1,6 @@
--- Auxiliary: parts of the plain test that one function of it decides. `verdict`, with the lowering's answer, is the first fault (machine's `firstFault`) by the
+-- Auxiliary: parts of the plain test that one function of it decides. `verdict`, with the lowering's answer, is the first fault (machine's `first_fault`) by the
 -- laws of proofs/Answered.antt.
-use Rattle.std.specs.Prelude.{◌≡◌, ℕ, suc, ◌+◌, ◌%◌, ◌^◌, ◌<◌, ◌≤◌, Bool, true, false, cond, not, ◌&&◌, ◌||◌, List, [], ◌∷◌, length, take, ◌==◌, nat_le, nat_lt, slice_index, slice_set, Option, Some, None}
+use Rattle.std.specs.Prelude.{◌≡◌, ℕ, suc, ◌+◌, ◌%◌, ◌^◌, ◌<◌, ◌≤◌, Bool, cond, not, ◌&&◌, ◌||◌, List, [], ◌∷◌, length, take, ◌==◌, nat_le, nat_lt, slice_index, slice_set, Option, Some, None}
 use Rattle.ir.specs.declared.«Type».{«Type» as IrType}
 use Rattle.ir.specs.declared.VarId.{VarId}
 use Rattle.ir.specs.declared.Operand.{Operand}

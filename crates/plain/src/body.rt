@@ -16,8 +16,10 @@ fn count_label(counts: &mut [u16; 256], instr: Instr)
     requires { Few counts.old }
     ensures { counts.new ≡ one_more instr counts.old }
 {
-    if let Instr::Label(l) = instr && l < MOST_LABELS {
-        counts[l as usize] += 1;
+    if let Instr::Label(label) = instr
+        && label < MOST_LABELS
+    {
+        counts[label as usize] += 1;
     }
 }
 
@@ -40,11 +42,9 @@ pub fn first_fault(sheet: &Sheet, counts: &[u16; 256], n: u64) -> Option<u64>
     requires laid { Laid sheet.now.bytes.now }
     requires counts { Counts (function_of sheet.now.bytes.now).body counts.now }
     requires n_bound { n ≤ cell_at sheet.now.bytes.now 5 }
-    requires sheet_value { are_named (take n (function_of sheet.now.bytes.now).body) ≡ true }
-    ensures {
-        let F = function_of sheet.now.bytes.now in
-        result ≡ first_of F [] 1 (take n F.body)
-    }
+    requires named { are_named (take n (function_of sheet.now.bytes.now).body) ≡ true }
+    ensures { let F = function_of sheet.now.bytes.now in
+        result ≡ first_of F [] 1 (take n F.body) }
 {
     let mut before = [0u16; 256];
     let mut cell = body_from(sheet.bytes);

@@ -14,7 +14,10 @@ use ir::read::{Sheet, type_at, var_at};
 fn are_plain_types(sheet: &Sheet) -> bool
     ensures { result ≡ every has_plain_code (function_of sheet.now.bytes.now).vars }
 {
-    (0..cell_at(sheet.bytes, 0)).all(|k| is_plain_code(type_at(sheet.bytes, 6 + 2 * k as usize).code))
+    (0..cell_at(sheet.bytes, 0)).all(|k| {
+        let ty = type_at(sheet.bytes, 6 + 2 * k as usize);
+        is_plain_code(ty.code)
+    })
 }
 
 // A sheet has this many parameters, from this cell on.
@@ -37,11 +40,9 @@ impl<'a> Params<'a> {
     // It says whether no parameter behind number `k` has its id.
     fn is_last_of_id(&self, k: u64) -> bool
         requires { k < self.now.count }
-        ensures {
-            let s = self.now.sheet.bytes.now in
+        ensures { let s = self.now.sheet.bytes.now in
             let p = var_at s (self.now.from + 3 * k) in
-            result ≡ is_absent p.id (vars_at s (self.now.count - (k + 1)) (self.now.from + 3 * (k + 1)))
-        }
+            result ≡ is_absent p.id (vars_at s (self.now.count - (k + 1)) (self.now.from + 3 * (k + 1))) }
     {
         // A copy is known to have a count that fits, and so the sum does.
         let params = *self;
@@ -57,10 +58,8 @@ impl<'a> Params<'a> {
 
     // It says whether they have their entries' types, and are no arrays.
     fn are_scalar(&self) -> bool
-        ensures {
-            let s = self.now.sheet.bytes.now in
-            result ≡ every (is_scalar_var (function_of s)) (vars_at s self.now.count self.now.from)
-        }
+        ensures { let s = self.now.sheet.bytes.now in
+            result ≡ every (is_scalar_var (function_of s)) (vars_at s self.now.count self.now.from) }
     {
         (0..self.count).all(|k| is_scalar_var(&self.sheet, self.at(k)))
     }

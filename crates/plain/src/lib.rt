@@ -7,7 +7,7 @@ mod instrs;
 mod operands;
 mod vars;
 
-ghost use Rattle.std.specs.Prelude.{◌≡◌, ℕ, ◌≤◌, true, List, take};
+ghost use Rattle.std.specs.Prelude.{◌≡◌, ℕ, ◌≤◌, true, List, take, nat_lt};
 ghost use Rattle.cells.specs.Cells.{cell_at};
 ghost use Rattle.cells.specs.Refusals.{number_of_refusal};
 ghost use Rattle.cells.specs.Outcomes.{outcome};
@@ -26,6 +26,7 @@ use cells::refusals::{Refusal, Refused};
 use ir::read::Sheet;
 
 // It finds the first fault among the head and the first `n` instructions.
+#[tactic(auto, unfolding(crate::specs::Parts::verdict))]
 fn conditions(bytes: &[u8], n: u64) -> Option<u64>
     requires laid { Laid bytes.now }
     requires n_bound { n ≤ cell_at bytes.now 5 }
@@ -41,6 +42,7 @@ fn conditions(bytes: &[u8], n: u64) -> Option<u64>
 
 // It is the plain test of a sheet that the lowering accepts: the first number at fault, where there is one. It is 0 for variables, parameters, the return
 // type and a refusal that has no instruction, else the instruction's number.
+#[tactic(auto, using(crate::proofs::Answered::accepts_laid, crate::proofs::Answered::accepts_named))]
 pub fn plain_accepted(sheet: &[u8]) -> Option<u64>
     requires { Accepts sheet.now }
     ensures { (t : List ℕ) (is : List Instruction) → compiled t sheet.now ≡ accepted is → plain_says result ≡ first_fault t sheet.now }
@@ -48,15 +50,22 @@ pub fn plain_accepted(sheet: &[u8]) -> Option<u64>
     conditions(sheet, cell_at(sheet, 5))
 }
 
+// Refusals 1 to 3 are the layout's.
+fn is_of_layout(refusal: Refusal) -> bool
+    ensures { result ≡ nat_lt (number_of_refusal refusal) 4 }
+{
+    matches!(
+        refusal,
+        Refusal::BadTable | Refusal::TornSheet | Refusal::Oversize
+    )
+}
+
 // It is the plain test of a sheet that the lowering refuses: a condition that is broken before the refusal's place comes first.
 pub fn plain_refused(sheet: &[u8], refused: Refused) -> Option<u64>
     requires { Refuses sheet.now (number_of_refusal refused.refusal) refused.place }
     ensures { (t : List ℕ) → compiled t sheet.now ≡ outcome (Err refused) → plain_says result ≡ first_fault t sheet.now }
 {
-    if matches!(refused.refusal, Refusal::BadTable | Refusal::TornSheet | Refusal::Oversize) {
-        return Some(0);
-    }
-    if refused.place == 0 {
+    if is_of_layout(refused.refusal) || refused.place == 0 {
         return Some(0);
     }
     conditions(sheet, refused.place - 1).or(Some(refused.place))

@@ -22,17 +22,17 @@ pub fn is_plain_return(ty: Type) -> bool
 
 // A variable's own type equals its entry.
 #[tactic(auto, using(crate::proofs::Tests::entry_is))]
-pub fn is_entry(sheet: &Sheet, v: VarId) -> bool
-    ensures { result ≡ is_entry (function_of sheet.now.bytes.now) v }
+pub fn is_entry(sheet: &Sheet, var: VarId) -> bool
+    ensures { result ≡ is_entry (function_of sheet.now.bytes.now) var }
 {
-    Some(v.ty) == sheet.entry(v.id) && is_plain_code(v.ty.code)
+    Some(var.ty) == sheet.entry(var.id) && is_plain_code(var.ty.code)
 }
 
 // A variable's own type equals its entry and is no array.
-pub fn is_scalar_var(sheet: &Sheet, v: VarId) -> bool
-    ensures { result ≡ is_scalar_var (function_of sheet.now.bytes.now) v }
+pub fn is_scalar_var(sheet: &Sheet, var: VarId) -> bool
+    ensures { result ≡ is_scalar_var (function_of sheet.now.bytes.now) var }
 {
-    is_entry(sheet, v) && v.ty.is_scalar()
+    is_entry(sheet, var) && var.ty.is_scalar()
 }
 
 pub fn is_bool_type(ty: Type) -> bool
@@ -41,8 +41,8 @@ pub fn is_bool_type(ty: Type) -> bool
     ty.code == 7 && ty.is_scalar()
 }
 
-pub fn is_one_byte(d: VarId) -> bool
-    ensures { result ≡ is_one_byte d }
+pub fn is_one_byte(var: VarId) -> bool
+    ensures { result ≡ is_one_byte var }
 {
-    d.ty.bytes() == 1
+    var.ty.bytes() == 1
 }

@@ -3,6 +3,12 @@ use Rattle.plain.proofs.Counting.{line_there, room_left, none_counted, one_count
 use Rattle.std.proofs.Common.{arith}
 use Rattle.plain.proofs.body.count_labels.Goals as goal
 
+pub body_from-cell-requires : goal.body_from-cell-requires
+body_from-cell-requires c = has_params c.requires
+
+pub cell_at-end-requires : goal.cell_at-end-requires
+cell_at-end-requires c = omega (arith, has_header c.requires)
+
 pub loop-init : goal.loop-init
 loop-init c = rw c.body_from-cell.ensures (none_counted c.requires)
 

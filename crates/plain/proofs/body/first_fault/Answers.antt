@@ -1,8 +1,5 @@
-use Rattle.std.proofs.Common.{◌≡◌, Bool, sym, ap, ◌∙◌, arith}
-use Rattle.ir.specs.declared.Instr.{Instr}
-use Rattle.ir.specs.Function.{function_of}
+use Rattle.std.proofs.Common.{sym, ◌∙◌, arith}
 use Rattle.layout.proofs.Walk.{has_params}
-use Rattle.machine.specs.Plain.{is_plain_instr}
 use Rattle.plain.proofs.Counting.{line_there, room_left}
 use Rattle.plain.proofs.Faults.{none_tested, label_small, one_tested, fault_found, all_tested}
 use Rattle.plain.proofs.body.first_fault.Goals as goal
@@ -11,7 +8,7 @@ pub body_from-cell-requires : goal.body_from-cell-requires
 body_from-cell-requires c = has_params c.requires.laid
 
 pub loop-k-init : goal.loop-k-init
-loop-k-init c = rw c.body_from-cell.ensures (none_tested c.requires.laid c.requires.n_bound c.requires.sheet_value)
+loop-k-init c = rw c.body_from-cell.ensures (none_tested c.requires.laid c.requires.n_bound c.requires.named)
 
 pub instr_at-instr-requires : goal.instr_at-instr-requires
 instr_at-instr-requires c = (line_there c.loop-k.invariant.walked (omega (arith, c.requires.n_bound))).0
