@@ -16,7 +16,7 @@ ghost use Rattle.comparisons.specs.Looks.{parity_of, parity_for, float_choice, c
 use cells::refusals::Refusal;
 use ir::Operand as IrOp;
 use ir::lines::Line;
-use records::{put_instruction, put_set_cc};
+use records::put_instruction;
 use utils::context::Context;
 use utils::kinds::{Kind, operand_kind};
 use utils::slots::{Sides, Slot, look_slot};
@@ -162,7 +162,7 @@ fn put_store(out: &mut [u8], at: usize, dest: Slot, parity: Option<Parity>)
     match parity {
         None => put_instruction(out, at, store),
         Some(Parity { second, join }) => {
-            put_set_cc(
+            put_instruction(
                 out,
                 at,
                 Instruction::SetCC {
@@ -209,7 +209,7 @@ fn put_compared(out: &mut [u8], at: usize, found: Compared)
             size: found.size,
         },
     );
-    put_set_cc(
+    put_instruction(
         out,
         at + 192,
         Instruction::SetCC {

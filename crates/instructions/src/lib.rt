@@ -15,7 +15,7 @@ ghost use Rattle.instructions.specs.Looks.{return_register, return_of, zero_of, 
 use cells::refusals::Refusal;
 use ir::Type;
 use ir::lines::Line;
-use records::{put_ctrl, put_instruction, put_lea, put_prefix, put_stack};
+use records::put_instruction;
 use utils::context::Context;
 use utils::slots::{look_slot, put_moved};
 use utils::{convert_var, mov, own_size, put_load, source};
@@ -31,7 +31,7 @@ pub fn func_epilogue(out: &mut [u8], at: usize)
 {
     let rbp = Operand::Reg(Register::RBP);
     put_instruction(out, at, mov(Operand::Reg(Register::RSP), rbp, Size::NoSize));
-    put_stack(
+    put_instruction(
         out,
         at + 64,
         Instruction::Stack {
@@ -40,7 +40,7 @@ pub fn func_epilogue(out: &mut [u8], at: usize)
             size: Size::NoSize,
         },
     );
-    put_ctrl(
+    put_instruction(
         out,
         at + 128,
         Instruction::Ctrl {
@@ -121,7 +121,7 @@ fn put_zero(out: &mut [u8], at: usize, bytes: u64, var: Operand)
     requires { at + 256 ≤ length out.old }
     ensures { out.new ≡ write out.old at (list_bytes (zero_of bytes var)) }
 {
-    put_lea(
+    put_instruction(
         out,
         at,
         Instruction::Lea {
@@ -140,7 +140,7 @@ fn put_zero(out: &mut [u8], at: usize, bytes: u64, var: Operand)
         at + 128,
         mov(Operand::Reg(Register::RAX), Operand::Imm(0), Size::U64),
     );
-    put_prefix(
+    put_instruction(
         out,
         at + 192,
         Instruction::Prefix {
@@ -253,7 +253,7 @@ fn put_branch(out: &mut [u8], at: usize, src: Operand, label: u64)
             size: Size::U8,
         },
     );
-    put_ctrl(
+    put_instruction(
         out,
         at + 128,
         Instruction::Ctrl {

@@ -14,7 +14,7 @@ ghost use Rattle.operations.specs.Loads.{look_sides, one_load, one_load_of, midd
 
 use cells::refusals::Refusal;
 use ir::lines::Line;
-use records::{put_complex_binary, put_instruction, put_shift, put_unary};
+use records::put_instruction;
 use utils::context::Context;
 use utils::slots::{Sides, Slot};
 use utils::{convert_operand, convert_var, mov, put_load, source, var_size};
@@ -184,9 +184,9 @@ fn put_dividing(out: &mut [u8], at: usize, unsigned: bool, size: Size)
                 size,
             },
         );
-        put_complex_binary(out, at + 64, divide(ComplexBinOp::Div, size));
+        put_instruction(out, at + 64, divide(ComplexBinOp::Div, size));
     } else {
-        put_unary(
+        put_instruction(
             out,
             at,
             Instruction::Unary {
@@ -195,7 +195,7 @@ fn put_dividing(out: &mut [u8], at: usize, unsigned: bool, size: Size)
                 size,
             },
         );
-        put_complex_binary(out, at + 64, divide(ComplexBinOp::Idiv, size));
+        put_instruction(out, at + 64, divide(ComplexBinOp::Idiv, size));
     }
 }
 
@@ -216,7 +216,7 @@ impl Middle {
         let dst = Operand::Reg(Register::RAX);
         let src = Operand::Reg(Register::RCX);
         match self {
-            Middle::Multiply => put_complex_binary(
+            Middle::Multiply => put_instruction(
                 out,
                 at,
                 Instruction::ComplexBinary {
@@ -226,7 +226,7 @@ impl Middle {
                     size,
                 },
             ),
-            Middle::Shift(op) => put_shift(out, at, Instruction::Shift { op, dst, src, size }),
+            Middle::Shift(op) => put_instruction(out, at, Instruction::Shift { op, dst, src, size }),
             Middle::Divide(unsigned) => put_dividing(out, at, unsigned, size),
         }
     }

@@ -7,5 +7,5 @@ pub returns : goal.returns
 returns c =
     let count = number c.args.found in
     both _ _ _ _ _ _ _
-    (puts (first c.put_load.ensures (put c.put_load-2.ensures (put c.put_instruction.ensures (put c.put_set_cc.ensures done)))) (omega arith))
+    (puts (first c.put_load.ensures (put c.put_load-2.ensures (put c.put_instruction.ensures (put c.put_instruction-2.ensures done)))) (omega arith))
     c.put_store.ensures (omega arith) (omega arith)

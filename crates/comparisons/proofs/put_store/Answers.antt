@@ -9,4 +9,4 @@ pub returns-in-Some : goal.returns-in-Some
 returns-in-Some c =
     let room = rw c.in-Some.is at c.requires in
     rw c.in-Some.is
-    (rw c.mov-store.ensures at (puts (first c.put_set_cc.ensures (put c.put_instruction-in-Some.ensures (put c.put_instruction-in-Some-2.ensures done))) (omega arith)))
+    (rw c.mov-store.ensures at (puts (first c.put_instruction-in-Some.ensures (put c.put_instruction-in-Some-2.ensures (put c.put_instruction-in-Some-3.ensures done))) (omega arith)))
