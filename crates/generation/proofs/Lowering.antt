@@ -14,6 +14,7 @@ use Rattle.layout.specs.Limits.{most_variables, most_count}
 use Rattle.layout.specs.Layout.{Checked, Limited, bind_checked, tables_check, head_check, sheet_in, sheet_check, instrs_check, end_check}
 use Rattle.layout.proofs.Laws.{head_total}
 use Rattle.ir.specs.declared.«Type».{«Type» as IrType}
+use Rattle.ir.specs.Types as types
 use Rattle.ir.specs.Types.{Result, ok, last_offset}
 use Rattle.ir.specs.Function.{types_at, vars_at, params_from, tables_of, function_of}
 use Rattle.x86.specs.declared.enums.Instruction.{Instruction}

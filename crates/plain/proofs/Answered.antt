@@ -2,9 +2,9 @@
 use Rattle.std.proofs.Common.{◌≡◌, ℕ, zero, suc, ◌+◌, ◌-◌, ◌<◌, ◌≤◌, Bool, true, false, cond, not, ◌||◌, ◌⊎◌, List, [], ◌∷◌, length, take, sym, refl, ◌∙◌, subst, inl, inr, le_of_suc-le-suc, arith, eq-eqb, ne_eqb, Option, None, Some, Ok, Err}
 use Rattle.std.specs.Option.{option_or}
 use mathlib.Core.Option.{some}
+use Rattle.std.proofs.Math.Bool.{or-true}
 use Rattle.cells.specs.Cells.{cell_at}
 use Rattle.cells.specs.declared.Cursor.{Cursor}
-use Rattle.cells.specs.Refusals.{number_of_refusal}
 use Rattle.layout.specs.Layout.{Checked, tables_check, sheet_check, Laid}
 use Rattle.layout.specs.declared.Edition.{Edition}
 use Rattle.layout.proofs.Laws.{sheet_right, head_labels}
@@ -72,10 +72,6 @@ module _ (F : Function) where
 
 -- ---- the layout is right
 
-or_true : (b : Bool) → (b || true) ≡ true
-or_true true = refl
-or_true false = refl
-
 module _ (t s : List ℕ) where
   -- an answer that is the least number at fault
   least_says : (r : Option ℕ) → Least (is_fault t s) (plain_says r) → plain_says r ≡ first_fault t s
@@ -112,7 +108,7 @@ module _ (t s : List ℕ) where
 
     module _ (n place : ℕ) (e : generate (tables_of t) (function_of s) ≡ refused n place) where
       there : is_fault t s place ≡ true
-      there = fault_is place ∙ rw e (rw (eq-eqb place place refl) (or_true (not (is_plain_at (function_of s) place))))
+      there = fault_is place ∙ rw e (rw (eq-eqb place place refl) (or-true (not (is_plain_at (function_of s) place))))
 
       kept_before : (k : ℕ) → k < place → is_plain_at (function_of s) k ≡ true → is_fault t s k ≡ false
       kept_before k h p = fault_is k ∙ rw (p, e) (ne_eqb place k (λ q. omega arith))
@@ -133,27 +129,25 @@ module _ (t s : List ℕ) where
     pub sheet_end : Cursor
     pub sheet_right : sheet_check s ≡ Ok sheet_end
 
-  -- tables and sheet are on the layout, and the function is accepted
-  accepted_right : (is : List Instruction) → compiled t s ≡ accepted is → Right × (generate (tables_of t) (function_of s) ≡ accepted is)
+  -- tables and sheet are on the layout, and the function has the answer, where it is none of refusals 1 to 3
+  compiled_right : (o : Outcome (List Instruction)) → compiled t s ≡ o → ((n place : ℕ) → refused n place ≡ o → 4 ≤ n)
+      → Right × (generate (tables_of t) (function_of s) ≡ o)
   unfolding compiled
-  accepted_right is e = go (tables_check t) refl (sheet_check s) refl e
+  compiled_right o e h = go (tables_check t) refl (sheet_check s) refl e
     where
       go : (a : Checked) → tables_check t ≡ a → (b : Checked) → sheet_check s ≡ b
-          → checked a (λ u. checked b (λ v. generate (tables_of t) (function_of s))) ≡ accepted is → Right × (generate (tables_of t) (function_of s) ≡ accepted is)
+          → checked a (λ u. checked b (λ v. generate (tables_of t) (function_of s))) ≡ o → Right × (generate (tables_of t) (function_of s) ≡ o)
       go (Ok c) p (Ok d) q e = (record { tables_end = c; tables_right = p; sheet_end = d; sheet_right = q }, e)
-      go (Ok c) p (Err r) q e = absurd (never e)
-      go (Err r) p b q e = absurd (never e)
+      go (Ok c) p (Err r) q e = let (x, y) = off_by (sheet_off Edition.First s) q in let l = h _ _ e in absurd (omega arith)
+      go (Err r) p b q e = let x = off_by (tables_off t) p in let l = h _ _ e in absurd (omega arith)
+
+  -- it is accepted
+  accepted_right : (is : List Instruction) → compiled t s ≡ accepted is → Right × (generate (tables_of t) (function_of s) ≡ accepted is)
+  accepted_right is e = compiled_right (accepted is) e (λ n place z. absurd (never z))
 
   -- .. or refused by 4 to 7
   refused_right : (n place : ℕ) → 4 ≤ n → compiled t s ≡ refused n place → Right × (generate (tables_of t) (function_of s) ≡ refused n place)
-  unfolding compiled
-  refused_right n place h e = go (tables_check t) refl (sheet_check s) refl e
-    where
-      go : (a : Checked) → tables_check t ≡ a → (b : Checked) → sheet_check s ≡ b
-          → checked a (λ u. checked b (λ v. generate (tables_of t) (function_of s))) ≡ refused n place → Right × (generate (tables_of t) (function_of s) ≡ refused n place)
-      go (Ok c) p (Ok d) q e = (record { tables_end = c; tables_right = p; sheet_end = d; sheet_right = q }, e)
-      go (Ok c) p (Err r) q e = let l : number_of_refusal r.refusal ≡ n = same_number e in let (x, y) = off_by (sheet_off Edition.First s) q in absurd (omega arith)
-      go (Err r) p b q e = let l : number_of_refusal r.refusal ≡ n = same_number e in let x = off_by (tables_off t) p in absurd (omega arith)
+  refused_right n place h e = compiled_right (refused n place) e (λ m k z. let l : m ≡ n = same_number z in omega arith)
 
   -- ---- what the functions answer
 

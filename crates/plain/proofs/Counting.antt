@@ -1,6 +1,6 @@
 -- How often each label stands: what has been counted and what is left are the whole.
-use Rattle.std.proofs.Common.{◌≡◌, ℕ, suc, ◌+◌, ◌-◌, ◌<◌, ◌≤◌, Bool, true, false, cond, eqb, leb, List, [], ◌∷◌, length, get_or, set, replicate, sym, refl, ◌∙◌, arith, length-set, get_or-set_other, get_or-set_same, eqb-true, leb-true}
-use borrow.Author.Tests.{eqb-false}
+use Rattle.std.proofs.Common.{◌≡◌, ℕ, suc, ◌+◌, ◌-◌, ◌<◌, ◌≤◌, cond, List, [], ◌∷◌, length, get_or, replicate, refl, ◌∙◌, arith, length-set, get_or-set_other, get_or-set_same}
+use Rattle.std.proofs.lemmas.Bool.Decides.{nat_tests}
 use lib.ListN.{length-replicate, get_or-replicate}
 use Rattle.ir.specs.declared.Instr.{Instr}
 use Rattle.cells.specs.Cells.{cells, cell_at}
@@ -14,45 +14,13 @@ use Rattle.layout.proofs.Walk.{Walk, has_few, walk_from, walk_here, walk_next}
 -- ---- one instruction
 
 module _ (counts : List ℕ) (long : length counts ≡ 256) (l : ℕ) (small : l < 256) where
-  label_more : (k : ℕ) → get_or (cond (leb 256 k) counts (set counts k (get_or counts k 0 + 1))) l 0 ≡ get_or counts l 0 + cond (eqb k l) 1 0
-  label_more k = go (eqb k l) refl (leb 256 k) refl
-    where
-      go : (e : Bool) → eqb k l ≡ e → (b : Bool) → leb 256 k ≡ b →
-          get_or (cond b counts (set counts k (get_or counts k 0 + 1))) l 0 ≡ get_or counts l 0 + cond e 1 0
-      go true p true q = let a = eqb-true k l p in let t = leb-true 256 k q in absurd (omega arith)
-      go true p false q = let a = eqb-true k l p in rw a (get_or-set_same counts l (get_or counts l 0 + 1) 0 (omega arith))
-      go false p true q = omega arith
-      go false p false q = get_or-set_other counts k l (get_or counts k 0 + 1) 0 (λ a. eqb-false k l p (sym a)) ∙ omega arith
-
   more : (i : Instr) → get_or (one_more i counts) l 0 ≡ get_or counts l 0 + cond (is_label l i) 1 0
-  more (Instr.Copy d x) = omega arith
-  more (Instr.Unary d op x) = omega arith
-  more (Instr.Binary d op x y) = omega arith
-  more (Instr.Cast d x) = omega arith
-  more (Instr.Zero d) = omega arith
-  more (Instr.Call d symbol count) = omega arith
-  more (Instr.Label k) = label_more k
-  more (Instr.Jump k) = omega arith
-  more (Instr.JumpIfNot x k) = omega arith
-  more (Instr.Return x) = omega arith
-  more Instr.Comment = omega arith
+  more (Instr.Label k) = grind (arith, nat_tests, get_or-set_other {A = ℕ}, get_or-set_same {A = ℕ})
+  more _ = omega arith
 
 more_long : (i : Instr) (counts : List ℕ) → length (one_more i counts) ≡ length counts
-more_long (Instr.Copy d x) counts = refl
-more_long (Instr.Unary d op x) counts = refl
-more_long (Instr.Binary d op x y) counts = refl
-more_long (Instr.Cast d x) counts = refl
-more_long (Instr.Zero d) counts = refl
-more_long (Instr.Call d symbol count) counts = refl
-more_long (Instr.Label k) counts = go (leb 256 k)
-  where
-    go : (b : Bool) → length (cond b counts (set counts k (get_or counts k 0 + 1))) ≡ length counts
-    go true = refl
-    go false = length-set counts k _
-more_long (Instr.Jump l) counts = refl
-more_long (Instr.JumpIfNot x l) counts = refl
-more_long (Instr.Return x) counts = refl
-more_long Instr.Comment counts = refl
+more_long (Instr.Label k) counts = grind (arith, length-set {A = ℕ})
+more_long _ counts = refl
 
 -- no line at all
 pub none_counted_yet : Counts [] (replicate 256 0)
@@ -64,19 +32,11 @@ none_counted_yet = record { long = length-replicate {A = ℕ} 256 0; each = λ l
 label_few : (l : ℕ) (is : List Line) → label_count l is ≤ length is
 unfolding label_count
 label_few l [] = omega arith
-label_few l (i ∷ is) = go (is_label l i.instr) (label_few l is)
-  where
-    go : (b : Bool) → label_count l is ≤ length is → cond b (suc (label_count l is)) (label_count l is) ≤ suc (length is)
-    go true h = omega arith
-    go false h = omega arith
+label_few l (i ∷ is) = grind (arith, label_few l is)
 
 label_step : (l : ℕ) (i : Line) (is : List Line) → label_count l (i ∷ is) ≡ cond (is_label l i.instr) 1 0 + label_count l is
 unfolding label_count
-label_step l i is = go (is_label l i.instr)
-  where
-    go : (b : Bool) → cond b (suc (label_count l is)) (label_count l is) ≡ cond b 1 0 + label_count l is
-    go true = omega arith
-    go false = omega arith
+label_step l i is = grind arith
 
 -- behind one more line
 pub one_more_lem : {lines : List Line} {counts : List ℕ} → Counts lines counts → (i : Line) → Counts (i ∷ lines) (one_more i.instr counts)

@@ -14,6 +14,7 @@ use Rattle.machine.specs.Word.{W}
 use Rattle.machine.specs.Steps.{width}
 use Rattle.machine.specs.Plain.{every, is_plain_code, is_plain_head, is_scalar_var, is_plain_operand, is_plain_instr, label_count}
 
+-- a type's code is plain
 abbrev pub has_plain_code : IrType → Bool
 has_plain_code t = is_plain_code t.code
 
@@ -35,17 +36,10 @@ is_wide d x = not (width x == 4 && bytes d.ty == 8) || (d.ty.code == 1 || d.ty.c
 
 -- the label that an instruction names; 0 for one that names none
 abbrev pub label_of : Instr → ℕ
-label_of (Instr.Copy d x) = 0
-label_of (Instr.Unary d op x) = 0
-label_of (Instr.Binary d op x y) = 0
-label_of (Instr.Cast d x) = 0
-label_of (Instr.Zero d) = 0
-label_of (Instr.Call d symbol count) = 0
 label_of (Instr.Label l) = l
 label_of (Instr.Jump l) = l
 label_of (Instr.JumpIfNot x l) = l
-label_of (Instr.Return x) = 0
-label_of Instr.Comment = 0
+label_of _ = 0
 
 -- no label is beyond the limit
 unfoldable pub are_named : List Line → Bool
@@ -60,18 +54,10 @@ pub record Counts (lines : List Line) (counts : List ℕ) : Type 0 where
 pub record Few (counts : List ℕ) : Type 0 where
   pub each : (l : ℕ) → l < most_labels → slice_index counts l ≤ most_instructions
 
+-- the counts behind one more instruction: those of a label have grown by one
 abbrev pub one_more : Instr → List ℕ → List ℕ
-one_more (Instr.Copy d x) counts = counts
-one_more (Instr.Unary d op x) counts = counts
-one_more (Instr.Binary d op x y) counts = counts
-one_more (Instr.Cast d x) counts = counts
-one_more (Instr.Zero d) counts = counts
-one_more (Instr.Call d symbol count) counts = counts
 one_more (Instr.Label l) counts = cond (nat_le most_labels l) counts (slice_set counts l (slice_index counts l + 1))
-one_more (Instr.Jump l) counts = counts
-one_more (Instr.JumpIfNot x l) counts = counts
-one_more (Instr.Return x) counts = counts
-one_more Instr.Comment counts = counts
+one_more _ counts = counts
 
 -- the first instruction at fault, where the first is number k, behind the lines `before`
 unfoldable pub first_of : Function → List Line → ℕ → List Line → Option ℕ
@@ -84,11 +70,13 @@ verdict F n = cond (is_plain_head F) (first_of F [] 1 (take n F.body)) (Some 0)
 
 -- ---- what the lowering answers, with some tables
 
+-- the lowering accepts the sheet
 pub record Accepts (s : List ℕ) : Type 0 where
   pub tables : List ℕ
   pub list : List Instruction
   pub is : compiled tables s ≡ accepted list
 
+-- the lowering refuses the sheet by this number, at this place
 pub record Refuses (s : List ℕ) (number place : ℕ) : Type 0 where
   pub tables : List ℕ
   pub is : compiled tables s ≡ refused number place
