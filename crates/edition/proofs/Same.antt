@@ -10,9 +10,9 @@ use Rattle.cells.specs.Cells.{cell_at, cells_from, cell_bytes}
 use Rattle.ir.specs.declared.«Type».{«Type» as IrType}
 use Rattle.ir.specs.declared.VarId.{VarId}
 use Rattle.ir.specs.declared.Operand.{Operand}
-use Rattle.ir.specs.declared.Dest.{Dest}
+use Rattle.std.specs.Prelude.{Option, Some, None}
 use Rattle.ir.specs.declared.Instr.{Instr}
-use Rattle.ir.specs.Function.{Line, var_at, var_operand, int_operand, float_operand, bool_operand, address_operand, data_operand, operand_at, unary_op, copy_at, unary_at, binary_at, cast_at, zero_at, call_at, label_at, jump_at, jump_if_not_at, return_at, instr_at, arguments_at, behind, types_at, vars_at, operands_at, lines_at, params_from, body_from, function_of}
+use Rattle.ir.specs.Function.{Line, var_at, var_operand, int_operand, float_operand, bool_operand, address_operand, data_operand, operand_at, unary_op, binary_op, copy_at, unary_at, binary_at, cast_at, zero_at, call_at, label_at, jump_at, jump_if_not_at, return_at, instr_at, arguments_at, behind, types_at, vars_at, operands_at, lines_at, params_from, body_from, function_of}
 use Rattle.layout.specs.declared.Edition.{Edition}
 use Rattle.layout.specs.Layout.{holds_var, has_dest, has_left, LaidIn}
 use Rattle.edition.specs.Editions.{id_if, operand_id, side_id, operand_ids, instr_ids, instrs_ids, param_ids, ids, agrees, var_cells, param_cells, operand_cells, dest_cells, side_cells, operands_cells, instr_cells, instrs_cells, params_cells, sheet_cells}
@@ -101,21 +101,21 @@ module _ {s t : List ℕ} (heads : Heads s t) where
   kinds = copy_at ∷ unary_at ∷ binary_at ∷ cast_at ∷ zero_at ∷ call_at ∷ label_at ∷ jump_at ∷ jump_if_not_at ∷ return_at ∷ []
 
   call_dest : (k j : ℕ) (b : Bool) → (b ≡ true → var_of t (cell_at t (j + 2)) ≡ var_at s (k + 2)) →
-      typed_dest t (cond b (Dest.Var (var_at t (j + 2))) Dest.Nothing) ≡ cond b (Dest.Var (var_at s (k + 2))) Dest.Nothing
-  call_dest k j true f = ap Dest.Var (f refl)
+      typed_dest t (cond b (Some (var_at t (j + 2))) None) ≡ cond b (Some (var_at s (k + 2))) None
+  call_dest k j true f = ap (λ (v : VarId). Some v) (f refl)
   call_dest k j false f = refl
 
   kind_same : (n k j : ℕ) → Alike n k j → typed_instr t (get_or kinds n (λ s k. Instr.Comment) t j) ≡ get_or kinds n (λ s k. Instr.Comment) s k
   kind_same zero k j h = ap₂ Instr.Copy (h.dest refl) (h.left refl)
   kind_same (suc zero) k j h = rw h.op (ap₂ (λ (d : VarId) (x : Operand). Instr.Unary d (unary_op (cell_at s (k + 1))) x) (h.dest refl) (h.left refl))
   kind_same (suc (suc zero)) k j h =
-      rw h.op (ap₂ (λ (d : VarId) (x : Operand). Instr.Binary d (cell_at s (k + 1)) x (typed_operand t (operand_at t (j + 9)))) (h.dest refl) (h.left refl)
-      ∙ ap (λ (y : Operand). Instr.Binary (var_at s (k + 2)) (cell_at s (k + 1)) (operand_at s (k + 5)) y) (h.right refl))
+      rw h.op (ap₂ (λ (d : VarId) (x : Operand). Instr.Binary d (binary_op (cell_at s (k + 1))) x (typed_operand t (operand_at t (j + 9)))) (h.dest refl) (h.left refl)
+      ∙ ap (λ (y : Operand). Instr.Binary (var_at s (k + 2)) (binary_op (cell_at s (k + 1))) (operand_at s (k + 5)) y) (h.right refl))
   kind_same (suc (suc (suc zero))) k j h = ap₂ Instr.Cast (h.dest refl) (h.left refl)
   kind_same (suc (suc (suc (suc zero)))) k j h = ap Instr.Zero (h.dest refl)
   kind_same (suc (suc (suc (suc (suc zero))))) k j h =
       let c = h.call refl in
-      rw (h.op, c.0, c.1) (ap (λ (d : Dest). Instr.Call d (cell_at s (k + 5)) (cell_at s (k + 6))) (call_dest k j (eqb (cell_at s (k + 1)) 1) (λ p. h.dest p)))
+      rw (h.op, c.0, c.1) (ap (λ (d : Option VarId). Instr.Call d (cell_at s (k + 5)) (cell_at s (k + 6))) (call_dest k j (eqb (cell_at s (k + 1)) 1) (λ p. h.dest p)))
   kind_same (suc (suc (suc (suc (suc (suc zero)))))) k j h = ap Instr.Label h.op
   kind_same (suc (suc (suc (suc (suc (suc (suc zero))))))) k j h = ap Instr.Jump h.op
   kind_same (suc (suc (suc (suc (suc (suc (suc (suc zero)))))))) k j h = ap₂ Instr.JumpIfNot (h.left refl) h.op
