@@ -1,30 +1,26 @@
 -- What a conversion answers, told as the code finds it.
-use Rattle.std.proofs.Common.{◌≡◌, ℕ, ◌*◌, Bool, true, false, cond, List, length, refl, sym, ◌∙◌}
+use Rattle.std.proofs.Common.{◌≡◌, ℕ, ◌*◌, Bool, true, false, cond, List, length, refl}
 use Rattle.std.specs.Prelude.{ltb, Option, Some, None, Result, Ok, Err}
 use Rattle.cells.specs.Outcomes.{accepted, refused, ◌>>=◌, outcome}
 use Rattle.cells.specs.Refusals.{page_full, type_differs}
 use Rattle.cells.specs.declared.refusals.Refusal.{Refusal}
 use Rattle.cells.specs.declared.refusals.Refused.{Refused}
 use Rattle.layout.specs.declared.Edition.{Edition}
-use Rattle.layout.specs.Layout.{Checked, refuse, bind_checked, sheet_in, LaidIn}
-use Rattle.layout.proofs.Walk.{laid_from, has_types}
-use Rattle.edition.specs.Editions.{other, ids, stray_in, sheet_cells, fitted, unless, converted}
+use Rattle.layout.specs.Layout.{Checked, refuse, bind_checked, sheet_in}
+use Rattle.layout.proofs.Walk.{laid_from}
+use Rattle.edition.specs.Editions.{other, ids, stray_in, sheet_cells, unless, converted}
 use Rattle.edition.specs.Answers.{looked_up, refused_if}
 use Rattle.edition.specs.Walked.{Entered}
 use Rattle.edition.proofs.Parts.{none_stray}
 use Rattle.edition.proofs.Strays.{and_then}
 use Rattle.edition.proofs.Written.{entered_all}
 
--- what follows ids that agree
-abbrev pub behind_ids : {A : Type 0} → Result (Unit {0}) Refused → Result A Refused → Result A Refused
-behind_ids (Ok u) rest = rest
-behind_ids (Err r) rest = Err r
-
+-- the cells of the result where they have room
 abbrev pub placed : ℕ → List ℕ → Result (List ℕ) Refused
 placed room xs = cond (ltb room (8 * length xs)) (refuse Refusal.PageFull (length xs)) (Ok xs)
 
 pub converted_is : (e : Edition) (s : List ℕ) (room : ℕ) →
-    converted e s room ≡ outcome (bind_checked Err (sheet_in e s) (λ end. behind_ids (looked_up e s (ids e s)) (placed room (sheet_cells e (other e) s))))
+    converted e s room ≡ outcome (bind_checked Err (sheet_in e s) (λ end. and_then (looked_up e s (ids e s)) (placed room (sheet_cells e (other e) s))))
 unfolding converted
 converted_is e s room = go (sheet_in e s) (stray_in e s (ids e s)) (ltb room (8 * length (sheet_cells e (other e) s)))
   where
@@ -33,7 +29,7 @@ converted_is e s room = go (sheet_in e s) (stray_in e s (ids e s)) (ltb room (8 
 
     go : (x : Checked) (o : Option ℕ) (short : Bool) →
         outcome x >>= (λ end. unless type_differs o >>= (λ u. cond short (refused page_full (length xs)) (accepted xs)))
-        ≡ outcome (bind_checked Err x (λ end. behind_ids (refused_if o) (cond short (refuse Refusal.PageFull (length xs)) (Ok xs))))
+        ≡ outcome (bind_checked Err x (λ end. and_then (refused_if o) (cond short (refuse Refusal.PageFull (length xs)) (Ok xs))))
     go (Err r) o short = refl
     go (Ok end) (Some k) short = refl
     go (Ok end) None true = refl

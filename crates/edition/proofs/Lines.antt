@@ -60,6 +60,21 @@ module _ (f : Edition) (s : List ℕ) where
       let b = behind_is_so s k in
       omega (arith, instrs_end e n (behind s k) p.1, instrs_length n k)
 
+-- ---- the ids of an instruction
+
+pub agree_instr : (e : Edition) (s : List ℕ) (k : ℕ) → Agree e s (instr_ids s k) →
+    Agree e s (id_if (has_dest (cell_at s k) (cell_at s (k + 1))) (k + 2)) × Agree e s (side_id s (has_left (cell_at s k)) (k + 5))
+    × Agree e s (side_id s (eqb (cell_at s k) 2) (k + 9)) × Agree e s (operand_ids s (arguments_at s k) (k + 13))
+unfolding instr_ids
+agree_instr e s k a =
+    let L = side_id s (has_left (cell_at s k)) (k + 5) in
+    let R = side_id s (eqb (cell_at s k) 2) (k + 9) in
+    let A = operand_ids s (arguments_at s k) (k + 13) in
+    let u = agree_append e s (id_if (has_dest (cell_at s k) (cell_at s (k + 1))) (k + 2)) (L ++ (R ++ A)) a in
+    let v = agree_append e s L (R ++ A) u.1 in
+    let w = agree_append e s R A v.1 in
+    (u.0, v.0, w.0, w.1)
+
 -- ---- an instruction that is right: kind, operation, dest and what is behind it
 
 record Parted (e : Edition) (s : List ℕ) (k : ℕ) (d : Cursor) : Type 0 where
@@ -238,15 +253,9 @@ module _ {s t : List ℕ} (heads : Heads s t) (e f : Edition) where
       let p = parted e s k c in
       let g = split k j h in
       let same = arguments_same k j g in
-      let D = id_if has (k + 2) in
-      let L = side_id s (has_left n) (k + 5) in
-      let R = side_id s (eqb n 2) (k + 9) in
-      let A = operand_ids s (arguments_at s k) (k + 13) in
-      let u = agree_append e s D (L ++ (R ++ A)) a in
-      let v = agree_append e s L (R ++ A) u.1 in
-      let w = agree_append e s R A v.1 in
-      let d = dest_carried heads e f has (k + 2) (j + 2) p.dest u.0 g.dest in
-      let b = body_of k j p.body v.0 w.0 w.1 g in
+      let r = agree_instr e s k a in
+      let d = dest_carried heads e f has (k + 2) (j + 2) p.dest r.0 g.dest in
+      let b = body_of k j p.body r.1 r.2 r.3 g in
       let two : j + 1 + 1 ≡ j + 2 = omega arith in
       let five : j + 2 + 3 ≡ j + 5 = omega arith in
       let end : j + 13 + 4 * arguments_at t j ≡ j + (13 + 4 * arguments_at s k) = omega arith in (

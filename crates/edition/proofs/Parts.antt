@@ -6,12 +6,13 @@ use mathlib.Core.Bool.{Bool, true, false, cond, ◌&&◌}
 use mathlib.Core.List.{List, [], ◌∷◌, ◌++◌}
 use native.Mathlib.Omega.{arith}
 use native.Mathlib.Nat.{mul-suc}
+use Rattle.std.proofs.lemmas.Bool.{and_parts}
 use borrow.Author.Tests.{ltb-true, lt-ltb, eqb-true, eq-eqb}
 use lib.Dec.{ltb, eqb}
 use lib.ListN.{length, length-append}
 use Rattle.cells.specs.Cells.{cell_at, largest, cells_from}
 use Rattle.cells.specs.declared.Cursor.{Cursor}
-use Rattle.std.specs.Prelude.{Option, Some, None, Ok}
+use Rattle.std.specs.Prelude.{Some, None, Ok}
 use Rattle.cells.specs.declared.refusals.Refusal.{Refusal}
 use Rattle.layout.specs.declared.Edition.{Edition}
 use Rattle.layout.specs.Layout.{Checked, refuse, cursor, zeros_check, fields_check, type_check, own_in, var_in, param_in, param_width, holds_var, first_field, flag_field, operand_in, operands_in, dest_in, side_in, params_in}
@@ -43,21 +44,16 @@ none_stray e s (k ∷ ks) h = go (λ q. none_stray e s ks q) (agrees e s k) refl
   where
     go : (stray_in e s ks ≡ None → Agree e s ks) → (b : Bool) → agrees e s k ≡ b → cond b (stray_in e s ks) (Some k) ≡ None → Agree e s (k ∷ ks)
     go f true p h = (p, f h)
-    go f false p h = let z : ◌≡◌ {A = ℕ} 0 1 = cc in absurd (omega arith)
+    go f false p h = absurd cc
 
 pub all_agreed : (e : Edition) (s ks : List ℕ) → Agree e s ks → stray_in e s ks ≡ None
 unfolding stray_in
 all_agreed e s [] h = refl
 all_agreed e s (k ∷ ks) h = rw h.0 (all_agreed e s ks h.1)
 
--- what two tests say together
-both : (a b : Bool) → (a && b) ≡ true → (a ≡ true) × (b ≡ true)
-both true b e = (refl, e)
-both false b e = apart (sym e)
-
 pub has_entry : (e : Edition) (s : List ℕ) (k : ℕ) → agrees e s k ≡ true → cell_at s k < cell_at s 0
 unfolding agrees
-has_entry e s k h = ltb-true _ _ (both (ltb (cell_at s k) (cell_at s 0)) (own_agrees e s k) h).0
+has_entry e s k h = ltb-true _ _ (and_parts (ltb (cell_at s k) (cell_at s 0)) (own_agrees e s k) h).0
 
 -- ---- a variable that agrees with its entry is its own cells
 
@@ -66,8 +62,8 @@ pub own_agree : (s : List ℕ) (k : ℕ) → agrees Edition.First s k ≡ true �
     (cell_at s (entry_at (cell_at s k)) ≡ cell_at s (k + 1)) × (cell_at s (entry_at (cell_at s k) + 1) ≡ cell_at s (k + 1 + 1))
 unfolding agrees
 own_agree s k h =
-    let p = both (ltb (cell_at s k) (cell_at s 0)) (own_agrees Edition.First s k) h in
-    let q = both (eqb (cell_at s (k + 1)) (cell_at s (entry_at (cell_at s k)))) (eqb (cell_at s (k + 2)) (cell_at s (entry_at (cell_at s k) + 1))) p.1 in
+    let p = and_parts (ltb (cell_at s k) (cell_at s 0)) (own_agrees Edition.First s k) h in
+    let q = and_parts (eqb (cell_at s (k + 1)) (cell_at s (entry_at (cell_at s k)))) (eqb (cell_at s (k + 2)) (cell_at s (entry_at (cell_at s k) + 1))) p.1 in
     let two : k + 1 + 1 ≡ k + 2 = omega arith in
     (sym (eqb-true _ _ q.0), rw two (sym (eqb-true _ _ q.1)))
 

@@ -10,7 +10,7 @@ use Rattle.edition.proofs.Written.{laid_present}
 use Rattle.edition.proofs.Turns.{operand_ids_on, operand_ids_off, instr_ids_on, instr_ids_off, param_ids_on, param_ids_off, present_on}
 
 -- what follows ids that agree; a refusal stands
-abbrev pub and_then : Result (Unit {0}) Refused → Result (Unit {0}) Refused → Result (Unit {0}) Refused
+abbrev pub and_then : {A : Type 0} → Result (Unit {0}) Refused → Result A Refused → Result A Refused
 and_then (Ok u) rest = rest
 and_then (Err r) rest = Err r
 

@@ -1,5 +1,5 @@
 -- Lists of parts in a loop that is behind i of n: the part at hand, and those behind it.
-use Rattle.std.proofs.Common.{◌≡◌, ℕ, zero, suc, ◌+◌, ◌-◌, ◌*◌, ◌<◌, ◌≤◌, List, [], ◌∷◌, ◌++◌, refl, arith, ap, ◌∙◌}
+use Rattle.std.proofs.Common.{◌≡◌, ℕ, suc, ◌+◌, ◌-◌, ◌<◌, ◌≤◌, List, [], ◌∷◌, ◌++◌, refl, arith}
 use Rattle.cells.specs.Cells.{cells}
 use Rattle.ir.specs.Function.{behind}
 use Rattle.layout.specs.declared.Edition.{Edition}
@@ -73,7 +73,3 @@ module _ (s : List ℕ) (n i k : ℕ) where
 pub entered_parts : (s xs ys : List ℕ) → Entered s (xs ++ ys) → Entered s xs × Entered s ys
 entered_parts s [] ys h = (tt, h)
 entered_parts s (x ∷ xs) ys h = let r = entered_parts s xs ys h.1 in ((h.0, r.0), r.1)
-
-pub width_some : (e : Edition) → (1 ≤ param_width e) × (param_width e ≤ 3)
-width_some Edition.First = (omega arith, omega arith)
-width_some Edition.Second = (omega arith, omega arith)

@@ -13,7 +13,7 @@ use Rattle.layout.proofs.Laws.{instr_right, instrs_more}
 use Rattle.layout.proofs.Walk.{WalkIn, walk_from}
 use Rattle.edition.specs.Walked.{Entered, Present}
 use Rattle.edition.proofs.Lines.{instr_length, behind_is_so}
-use Rattle.edition.proofs.Parts.{Agree, has_entry, operand_length, operands_length, param_length, params_length}
+use Rattle.edition.proofs.Parts.{Agree, has_entry}
 use Rattle.edition.proofs.Turns.{entered_parts, operand_ids_on, operands_on, operands_off, param_ids_on, params_on, params_off, instr_ids_on, instrs_on, instrs_off, present_on}
 
 -- ---- bytes
@@ -48,20 +48,16 @@ module _ (s : List ℕ) (ids list : ℕ → ℕ → List ℕ) where
       first = behind_here.0
 
       module _ (part : List ℕ) (list_on : list (n - i) from ≡ part ++ list (n - (i + 1)) next) where
-        -- and there is room for it
-        pub fits : at + 8 * length part + 8 * length (list (n - (i + 1)) next) ≡ length out
-        fits = let l = ap length list_on ∙ length-append part (list (n - (i + 1)) next) in omega (arith, h.room)
-
         pub goes_on : (to end : ℕ) (new : List ℕ) → to ≡ next → end ≡ at + 8 * length part → new ≡ cell_bytes part → Writing n k (i + 1) to end (put_mid at (end - at) out new)
-        goes_on to end new t l p =
+        goes_on to end new t b p =
             let more = list (n - (i + 1)) next in
-            let f = fits in
+            let l = ap length list_on ∙ length-append part more in
             let w : length new ≡ 8 * length part = ap length p ∙ bytes_length part in
             rw t (record {
               is =
-                  rw (take-put_mid at (end - at) out new end (omega arith) (omega arith), p) (append_assoc (take at out) (cell_bytes part) (cell_bytes more)
+                  rw (take-put_mid at (end - at) out new end (omega arith) (omega (arith, h.room)), p) (append_assoc (take at out) (cell_bytes part) (cell_bytes more)
                   ∙ ap (λ (xs : List ℕ). take at out ++ xs) (sym (bytes_append part more) ∙ ap cell_bytes (sym list_on)) ∙ h.is);
-              room = simp (length-append, length-take, length-drop) (omega arith);
+              room = simp (length-append, length-take, length-drop) (omega (arith, h.room));
               entered = behind_here.1;
             })
 

@@ -149,5 +149,10 @@ pub(crate) fn look_up_ids(e: Edition, sheet: &Sheet) -> Result<(), Refused>
     let params = cell_at(s, 1) as usize;
     let from = 6 + 2 * cell_at(s, 0) as usize;
     look_up_params(e, sheet, params, from)?;
-    look_up_instrs(e, sheet, cell_at(s, 5) as usize, from + param_width(e) * params)
+    look_up_instrs(
+        e,
+        sheet,
+        cell_at(s, 5) as usize,
+        from + param_width(e) * params,
+    )
 }

@@ -161,7 +161,12 @@ fn put_params(e: Edition, f: Edition, sheet: &Sheet, n: usize, k: usize, out: &m
 {
     let size = 8 * param_width(f);
     for i in 0..n {
-        put_param(f, sheet, k + param_width(e) * i, &mut out[size * i..size * (i + 1)]);
+        put_param(
+            f,
+            sheet,
+            k + param_width(e) * i,
+            &mut out[size * i..size * (i + 1)],
+        );
     }
 }
 
@@ -180,5 +185,11 @@ pub(crate) fn put_sheet(e: Edition, f: Edition, sheet: &Sheet, out: &mut [u8])
     let (listed, body) = rest.split_at_mut(8 * (param_width(f) * params));
     copy_cells(s, 0, from, head);
     put_params(e, f, sheet, params, from, listed);
-    put_instrs(f, sheet, cell_at(s, 5) as usize, from + param_width(e) * params, body);
+    put_instrs(
+        f,
+        sheet,
+        cell_at(s, 5) as usize,
+        from + param_width(e) * params,
+        body,
+    );
 }

@@ -15,10 +15,9 @@ loop-preserved c =
     let s = c.args.sheet.now.bytes.now in
     let l = c.loop in
     let b = behind_is_so s l.at in
-    let p = present_on s c.args.n l.counter l.at c.loop-test.true l.invariant.2 in
-    (
+    let p = present_on s c.args.n l.counter l.at c.loop-test.true l.invariant.2 in (
       goes_on _ _ _ l.invariant.0 _ _ (instr_ids_on _ _ _ _ c.loop-test.true) _ (instrs_on _ _ _ _ _ c.loop-test.true) _ _ _ c.behind-next.ensures
-      (omega (arith, c.behind-next.ensures, instr_length c.args.f s l.at)) c.put_instr.ensures,
+          (omega (arith, c.behind-next.ensures, instr_length c.args.f s l.at)) c.put_instr.ensures,
       omega (arith, c.behind-next.ensures),
       rw c.behind-next.ensures p.1,
     )
