@@ -194,7 +194,7 @@ module _ (s : List ℕ) (bytes : Bytes s) where
   cell_bytes_lem : (at : ℕ) → at + 8 ≤ length s → bytes_of (word s at) ++ drop (at + 8) s ≡ drop at s
   cell_bytes_lem at h = ap (λ (l : List ℕ). l ++ drop (at + 8) s) (word_is at) ∙ sym (drop_eight at h)
 
-  from_bytes : (n k : ℕ) → (k + n) * 8 ≤ length s → cell_bytes (cells_from s k n) ++ drop ((k + n) * 8) s ≡ drop (k * 8) s
+  pub from_bytes : (n k : ℕ) → (k + n) * 8 ≤ length s → cell_bytes (cells_from s k n) ++ drop ((k + n) * 8) s ≡ drop (k * 8) s
   unfolding cell_bytes cells_from
   from_bytes zero k h = let z : (k + 0) * 8 ≡ k * 8 = omega arith in rw z refl
   from_bytes (suc n) k h =

@@ -1,21 +1,21 @@
 -- Going out and back returns the first bytes, from either edition.
 use Prim.Native.Nat.{ℕ, ◌*◌}
 use mathlib.Core.Path.{◌≡◌, refl}
+use mathlib.Core.Bool.{Bool, true, false, cond}
 use mathlib.Core.List.{List}
-use mathlib.Core.Option.{Option, none, some}
 use native.Mathlib.Omega.{arith}
 use borrow.Author.Tests.{le-ltb}
 use lib.Dec.{ltb}
 use lib.ListN.{length}
+use Rattle.std.specs.Prelude.{Option, Some, None, Ok, Err}
 use Rattle.cells.specs.Cells.{cells, cells_from, cell_bytes}
-use Rattle.cells.specs.Outcomes.{Outcome, accepted, refused, ◌>>=◌, unless}
+use Rattle.cells.specs.Outcomes.{accepted, refused, ◌>>=◌, outcome}
 use Rattle.cells.specs.Refusals.{type_differs, page_full}
 use Rattle.cells.proofs.Lists.{bytes_length, bytes_hold, from_length, whole_bytes}
 use Rattle.layout.specs.declared.Edition.{Edition}
-use Rattle.layout.specs.Layout.{sheet_in, LaidIn}
+use Rattle.layout.specs.Layout.{Checked, sheet_in, LaidIn}
 use Rattle.layout.proofs.Laws.{sheet_right}
-use Rattle.layout.proofs.Passed.{Passes, kept, checked_passed}
-use Rattle.edition.specs.Editions.{other, ids, sheet_cells, stray_in, converted}
+use Rattle.edition.specs.Editions.{other, ids, sheet_cells, stray_in, unless, converted}
 use Rattle.edition.specs.RoundTrip.{RoundTrip}
 use Rattle.edition.proofs.Parts.{Agree, none_stray, all_agreed}
 use Rattle.edition.proofs.Sheets.{small_sheet, carried_laid, carried_agrees, carried_again}
@@ -30,21 +30,17 @@ pub record Goes (e : Edition) (s xs : List ℕ) : Type 0 where
   pub agree : Agree e s (ids e s)
   pub are : xs ≡ sheet_cells e (other e) s
 
-is_accepted : {xs : List ℕ} → Passes refused (accepted xs)
-is_accepted = record { differs = λ n k e. let z : ◌≡◌ {A = ℕ} 0 1 = cc in omega arith }
-
-unless_passed : (n : ℕ) (o : Option ℕ) {rest : Outcome (List ℕ)} {xs : List ℕ} → unless n o >>= (λ u. rest) ≡ accepted xs → (none ≡ o) × (rest ≡ accepted xs)
-unless_passed n none h = (refl, h)
-unless_passed n (some k) h = absurd (is_accepted.differs n k h)
-
 pub goes : (e : Edition) (s : List ℕ) (room : ℕ) {xs : List ℕ} → converted e s room ≡ accepted xs → Goes e s xs
 unfolding converted
 goes e s room {xs} h =
-    let ys = sheet_cells e (other e) s in
-    let p = checked_passed is_accepted (sheet_in e s) _ h in
-    let q = unless_passed type_differs (stray_in e s (ids e s)) p.2 in
-    let r = kept is_accepted (ltb room (8 * length ys)) page_full (length ys) (accepted ys) q.1 in
-    record { laid = record { end = p.0; is = p.1 }; agree = none_stray e s (ids e s) q.0; are = let z = r.1 in cc }
+    go (sheet_in e s) (stray_in e s (ids e s)) (ltb room (8 * length (sheet_cells e (other e) s))) refl refl h
+  where
+    go : (x : Checked) (o : Option ℕ) (short : Bool) → sheet_in e s ≡ x → stray_in e s (ids e s) ≡ o →
+        outcome x >>= (λ end. unless type_differs o >>= (λ u. cond short (refused page_full (length (sheet_cells e (other e) s))) (accepted (sheet_cells e (other e) s)))) ≡ accepted xs → Goes e s xs
+    go (Ok end) None false p q h = record { laid = record { end = end; is = p }; agree = none_stray e s (ids e s) q; are = cc }
+    go (Ok end) None true p q h = absurd cc
+    go (Ok end) (Some k) short p q h = absurd cc
+    go (Err r) o short p q h = absurd cc
 
 pub round_trip : RoundTrip
 unfolding converted

@@ -9,12 +9,12 @@ use lib.Dec.{eqb}
 use lib.ListN.{length, length-append}
 use Rattle.cells.specs.Cells.{cells, cell_at, cells_from}
 use Rattle.cells.specs.declared.Cursor.{Cursor}
-use Rattle.cells.specs.Refusals.{torn_sheet}
+use Rattle.std.specs.Prelude.{Ok, Err}
+use Rattle.cells.specs.declared.refusals.Refusal.{Refusal}
 use Rattle.ir.specs.Function.{arguments_at, behind}
-use Rattle.layout.specs.declared.Checked.{Checked}
 use Rattle.layout.specs.declared.Edition.{Edition}
-use Rattle.layout.specs.Layout.{bind_checked, bind_limited, cursor, operation_most, has_dest, has_left, dest_in, side_in, call_check, operands_in, body_in, instr_in, instrs_in}
-use Rattle.layout.proofs.Passed.{Held, is_behind, place, word_passed, within_passed, passed_at}
+use Rattle.layout.specs.Layout.{refuse, bind_checked, bind_limited, cursor, operation_most, has_dest, has_left, dest_in, side_in, call_check, operands_in, body_in, instr_in, instrs_in}
+use Rattle.layout.proofs.Passed.{Held, place, word_passed, within_passed, passed_at}
 use Rattle.layout.proofs.Laws.{dest_right, side_right, call_right, instrs_more}
 use Rattle.edition.specs.Editions.{id_if, side_id, operand_ids, instr_ids, instrs_ids, dest_cells, side_cells, operands_cells, instr_cells, instrs_cells}
 use Rattle.cells.proofs.Lists.{Holds, holds_append, holds_join, holds_is, holds_from, from_there, from_length, from_split}
@@ -52,7 +52,7 @@ module _ (f : Edition) (s : List ℕ) where
   unfolding instrs_cells
   instrs_length n k = length-append (instr_cells f s k) (instrs_cells f s n (behind s k)) ∙ omega (arith, instr_length k)
 
-  pub instrs_end : (e : Edition) (n k : ℕ) {d : Cursor} → instrs_in e s n (cursor k) ≡ Checked.Behind d → d.at ≡ k + length (instrs_cells f s n k)
+  pub instrs_end : (e : Edition) (n k : ℕ) {d : Cursor} → instrs_in e s n (cursor k) ≡ Ok d → d.at ≡ k + length (instrs_cells f s n k)
   unfolding instrs_in instrs_cells
   instrs_end e zero k c = place c ∙ omega arith
   instrs_end e (suc n) k c =
@@ -60,23 +60,38 @@ module _ (f : Edition) (s : List ℕ) where
       let b = behind_is_so s k in
       omega (arith, instrs_end e n (behind s k) p.1, instrs_length n k)
 
+-- ---- the ids of an instruction
+
+pub agree_instr : (e : Edition) (s : List ℕ) (k : ℕ) → Agree e s (instr_ids s k) →
+    Agree e s (id_if (has_dest (cell_at s k) (cell_at s (k + 1))) (k + 2)) × Agree e s (side_id s (has_left (cell_at s k)) (k + 5))
+    × Agree e s (side_id s (eqb (cell_at s k) 2) (k + 9)) × Agree e s (operand_ids s (arguments_at s k) (k + 13))
+unfolding instr_ids
+agree_instr e s k a =
+    let L = side_id s (has_left (cell_at s k)) (k + 5) in
+    let R = side_id s (eqb (cell_at s k) 2) (k + 9) in
+    let A = operand_ids s (arguments_at s k) (k + 13) in
+    let u = agree_append e s (id_if (has_dest (cell_at s k) (cell_at s (k + 1))) (k + 2)) (L ++ (R ++ A)) a in
+    let v = agree_append e s L (R ++ A) u.1 in
+    let w = agree_append e s R A v.1 in
+    (u.0, v.0, w.0, w.1)
+
 -- ---- an instruction that is right: kind, operation, dest and what is behind it
 
 record Parted (e : Edition) (s : List ℕ) (k : ℕ) (d : Cursor) : Type 0 where
   kind : Held s k 0 10
   operation : Held s (k + 1) 0 (operation_most (cell_at s k))
-  dest : dest_in e s (has_dest (cell_at s k) (cell_at s (k + 1))) (cursor (k + 2)) ≡ Checked.Behind (cursor (k + 5))
-  body : body_in e s (cell_at s k) (cursor (k + 5)) ≡ Checked.Behind d
+  dest : dest_in e s (has_dest (cell_at s k) (cell_at s (k + 1))) (cursor (k + 2)) ≡ Ok (cursor (k + 5))
+  body : body_in e s (cell_at s k) (cursor (k + 5)) ≡ Ok d
 
-parted : (e : Edition) (s : List ℕ) (k : ℕ) {d : Cursor} → instr_in e s (cursor k) ≡ Checked.Behind d → Parted e s k d
+parted : (e : Edition) (s : List ℕ) (k : ℕ) {d : Cursor} → instr_in e s (cursor k) ≡ Ok d → Parted e s k d
 unfolding instr_in
 parted e s k c =
     let n = cell_at s k in
     let has = has_dest n (cell_at s (k + 1)) in
-    let p = within_passed is_behind torn_sheet s (cursor k) 0 10 _ c in
-    let q = within_passed is_behind torn_sheet s (cursor (k + 1)) 0 (operation_most n) _ p.1 in
+    let p = within_passed Refusal.TornSheet s (cursor k) 0 10 _ c in
+    let q = within_passed Refusal.TornSheet s (cursor (k + 1)) 0 (operation_most n) _ p.1 in
     let two : k + 1 + 1 ≡ k + 2 = omega arith in
-    let r = passed_at is_behind (dest_in e s has (cursor (k + 2))) (λ c3. body_in e s n c3) (k + 5)
+    let r = passed_at (dest_in e s has (cursor (k + 2))) (λ c3. body_in e s n c3) (k + 5)
     (λ m h. let z = dest_right e s has (cursor (k + 2)) h in omega arith) (rw two at q.1) in
     record { kind = p.0; operation = q.0; dest = r.0; body = r.1 }
 
@@ -84,7 +99,7 @@ module _ {s t : List ℕ} (heads : Heads s t) (e f : Edition) where
   -- ---- left, right and arguments of an instruction of kind n that has so many arguments
 
   record Sided (n args k j : ℕ) : Type 0 where
-    check : body_in f t n (cursor (j + 5)) ≡ Checked.Behind (cursor (j + 13 + 4 * args))
+    check : body_in f t n (cursor (j + 5)) ≡ Ok (cursor (j + 13 + 4 * args))
     left : side_cells e t (has_left n) (j + 5) ≡ cells_from s (k + 5) 4
     lefts : Agree f t (side_id t (has_left n) (j + 5))
     right : side_cells e t (eqb n 2) (j + 9) ≡ cells_from s (k + 9) 4
@@ -93,12 +108,12 @@ module _ {s t : List ℕ} (heads : Heads s t) (e f : Edition) where
     rests : Agree f t (operand_ids t args (j + 13))
 
   sides_carried : (n k j : ℕ) {d : Cursor} → eqb n 5 ≡ false →
-      bind_checked Checked.Refused (side_in e s (has_left n) (cursor (k + 5))) (λ c1. side_in e s (eqb n 2) c1) ≡ Checked.Behind d →
+      bind_checked Err (side_in e s (has_left n) (cursor (k + 5))) (λ c1. side_in e s (eqb n 2) c1) ≡ Ok d →
       Agree e s (side_id s (has_left n) (k + 5)) → Agree e s (side_id s (eqb n 2) (k + 9)) →
       Holds t (j + 5) (side_cells f s (has_left n) (k + 5)) → Holds t (j + 9) (side_cells f s (eqb n 2) (k + 9)) → Sided n 0 k j
   unfolding body_in operands_cells operand_ids cells_from
   sides_carried n k j call c a b g h =
-      let p = passed_at is_behind (side_in e s (has_left n) (cursor (k + 5))) _ (k + 9)
+      let p = passed_at (side_in e s (has_left n) (cursor (k + 5))) _ (k + 9)
       (λ m q. let z = side_right e s (has_left n) (cursor (k + 5)) q in omega arith) c in
       let l = side_carried heads e f (has_left n) (k + 5) (j + 5) p.0 a g in
       let r = side_carried heads e f (eqb n 2) (k + 9) (j + 9) p.1 b h in
@@ -114,15 +129,15 @@ module _ {s t : List ℕ} (heads : Heads s t) (e f : Edition) where
         rests = tt;
       }
 
-  call_carried : (k j : ℕ) {d : Cursor} → bind_limited Checked.Refused (call_check s (cursor (k + 5))) (λ count c1. operands_in e s count c1) ≡ Checked.Behind d →
+  call_carried : (k j : ℕ) {d : Cursor} → bind_limited Err (call_check s (cursor (k + 5))) (λ count c1. operands_in e s count c1) ≡ Ok d →
       Agree e s (operand_ids s (cell_at s (k + 6)) (k + 13)) → Holds t (j + 5) (cells_from s (k + 5) 4) → Holds t (j + 9) (cells_from s (k + 9) 4) →
       Holds t (j + 13) (operands_cells f s (cell_at s (k + 6)) (k + 13)) → Sided 5 (cell_at s (k + 6)) k j
   unfolding body_in cells_from
   call_carried k j {d} c a g h i =
-      let w = word_passed is_behind (call_check s (cursor (k + 5))) _ c in
+      let w = word_passed (call_check s (cursor (k + 5))) _ c in
       let q = call_right s k w.2 in
       let from : w.1 ≡ cursor (k + 13) = ap cursor q.3 in
-      let args : operands_in e s (cell_at s (k + 6)) (cursor (k + 13)) ≡ Checked.Behind d = rw (← q.2, ← from) w.3 in
+      let args : operands_in e s (cell_at s (k + 6)) (cursor (k + 13)) ≡ Ok d = rw (← q.2, ← from) w.3 in
       let o = operands_carried heads e f (cell_at s (k + 6)) (k + 13) (j + 13) args a i in
       let nine : j + 5 + 4 ≡ j + 9 = omega arith in
       let v = holds_join t (j + 5) (cells_from s (k + 5) 4) (cells_from s (k + 9) 4) g (holds_from t (cells_from s (k + 9) 4) (omega (arith, from_length s 4 (k + 5))) h) in
@@ -141,7 +156,7 @@ module _ {s t : List ℕ} (heads : Heads s t) (e f : Edition) where
 
   -- any kind
   body_carried : (n k j : ℕ) {d : Cursor} (b : Bool) → eqb n 5 ≡ b →
-      cond b (bind_limited Checked.Refused (call_check s (cursor (k + 5))) (λ count c1. operands_in e s count c1)) (bind_checked Checked.Refused (side_in e s (has_left n) (cursor (k + 5))) (λ c1. side_in e s (eqb n 2) c1)) ≡ Checked.Behind d →
+      cond b (bind_limited Err (call_check s (cursor (k + 5))) (λ count c1. operands_in e s count c1)) (bind_checked Err (side_in e s (has_left n) (cursor (k + 5))) (λ c1. side_in e s (eqb n 2) c1)) ≡ Ok d →
       Agree e s (side_id s (has_left n) (k + 5)) → Agree e s (side_id s (eqb n 2) (k + 9)) → Agree e s (operand_ids s (cond b (cell_at s (k + 6)) 0) (k + 13)) →
       Holds t (j + 5) (side_cells f s (has_left n) (k + 5)) → Holds t (j + 9) (side_cells f s (eqb n 2) (k + 9)) →
       Holds t (j + 13) (operands_cells f s (cond b (cell_at s (k + 6)) 0) (k + 13)) → Sided n (cond b (cell_at s (k + 6)) 0) k j
@@ -222,13 +237,13 @@ module _ {s t : List ℕ} (heads : Heads s t) (e f : Edition) where
       ∙ from_split s 3 (8 + n) (k + 2) (k + 5) (11 + n) (omega arith) (omega arith))
       ∙ from_split s 2 (11 + n) k (k + 2) (13 + n) refl (omega arith)
 
-  body_of : (k j : ℕ) {d : Cursor} → body_in e s (cell_at s k) (cursor (k + 5)) ≡ Checked.Behind d →
+  body_of : (k j : ℕ) {d : Cursor} → body_in e s (cell_at s k) (cursor (k + 5)) ≡ Ok d →
       Agree e s (side_id s (has_left (cell_at s k)) (k + 5)) → Agree e s (side_id s (eqb (cell_at s k) 2) (k + 9)) → Agree e s (operand_ids s (arguments_at s k) (k + 13)) →
       Split k j → Sided (cell_at s k) (arguments_at s k) k j
   unfolding body_in arguments_at
   body_of k j c a b i h = body_carried (cell_at s k) k j (eqb (cell_at s k) 5) refl c a b i h.left h.right h.rest
 
-  instr_carried : (k j : ℕ) {d : Cursor} → instr_in e s (cursor k) ≡ Checked.Behind d → Agree e s (instr_ids s k) → Holds t j (instr_cells f s k) →
+  instr_carried : (k j : ℕ) {d : Cursor} → instr_in e s (cursor k) ≡ Ok d → Agree e s (instr_ids s k) → Holds t j (instr_cells f s k) →
       Carried s k (13 + 4 * arguments_at s k) (instr_in f t (cursor j)) (behind t j) (instr_cells e t j) (Agree f t (instr_ids t j))
       × (behind t j ≡ j + (13 + 4 * arguments_at s k))
   unfolding instr_in instr_ids instr_cells behind
@@ -238,22 +253,16 @@ module _ {s t : List ℕ} (heads : Heads s t) (e f : Edition) where
       let p = parted e s k c in
       let g = split k j h in
       let same = arguments_same k j g in
-      let D = id_if has (k + 2) in
-      let L = side_id s (has_left n) (k + 5) in
-      let R = side_id s (eqb n 2) (k + 9) in
-      let A = operand_ids s (arguments_at s k) (k + 13) in
-      let u = agree_append e s D (L ++ (R ++ A)) a in
-      let v = agree_append e s L (R ++ A) u.1 in
-      let w = agree_append e s R A v.1 in
-      let d = dest_carried heads e f has (k + 2) (j + 2) p.dest u.0 g.dest in
-      let b = body_of k j p.body v.0 w.0 w.1 g in
+      let r = agree_instr e s k a in
+      let d = dest_carried heads e f has (k + 2) (j + 2) p.dest r.0 g.dest in
+      let b = body_of k j p.body r.1 r.2 r.3 g in
       let two : j + 1 + 1 ≡ j + 2 = omega arith in
       let five : j + 2 + 3 ≡ j + 5 = omega arith in
       let end : j + 13 + 4 * arguments_at t j ≡ j + (13 + 4 * arguments_at s k) = omega arith in (
         record {
           right =
-              within_goes (Checked.Refused torn_sheet) t j 0 10 _ (held_moves s t p.kind g.there g.kind)
-              ∙ rw g.kind (within_goes (Checked.Refused torn_sheet) t (j + 1) 0 (operation_most n) _ (held_moves s t p.operation g.next g.operation)
+              within_goes (refuse Refusal.TornSheet) t j 0 10 _ (held_moves s t p.kind g.there g.kind)
+              ∙ rw g.kind (within_goes (refuse Refusal.TornSheet) t (j + 1) 0 (operation_most n) _ (held_moves s t p.operation g.next g.operation)
               ∙ rw (g.operation, two, d.right ∙ behind_is five, same) b.check);
           again = rw (g.kind, g.operation, same) (joined k (4 * arguments_at s k) g.first d.again b.left b.right b.rest);
           entries =
@@ -267,7 +276,7 @@ module _ {s t : List ℕ} (heads : Heads s t) (e f : Edition) where
 
   -- ---- lists of instructions
 
-  pub instrs_carried : (n k j : ℕ) {d : Cursor} → instrs_in e s n (cursor k) ≡ Checked.Behind d → Agree e s (instrs_ids s n k) → Holds t j (instrs_cells f s n k) →
+  pub instrs_carried : (n k j : ℕ) {d : Cursor} → instrs_in e s n (cursor k) ≡ Ok d → Agree e s (instrs_ids s n k) → Holds t j (instrs_cells f s n k) →
       Carried s k (length (instrs_cells f s n k)) (instrs_in f t n (cursor j)) (j + length (instrs_cells f s n k)) (instrs_cells e t n j) (Agree f t (instrs_ids t n j))
   unfolding instrs_in instrs_ids instrs_cells cells_from
   instrs_carried zero k j c a h = record { right = behind_is (let z : j ≡ j + 0 = omega arith in z); again = refl; entries = tt }

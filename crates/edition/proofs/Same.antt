@@ -10,16 +10,16 @@ use Rattle.cells.specs.Cells.{cell_at, cells_from, cell_bytes}
 use Rattle.ir.specs.declared.«Type».{«Type» as IrType}
 use Rattle.ir.specs.declared.VarId.{VarId}
 use Rattle.ir.specs.declared.Operand.{Operand}
-use Rattle.ir.specs.declared.Dest.{Dest}
+use Rattle.std.specs.Prelude.{Option, Some, None}
 use Rattle.ir.specs.declared.Instr.{Instr}
-use Rattle.ir.specs.Function.{Line, var_at, var_operand, int_operand, float_operand, bool_operand, address_operand, data_operand, operand_at, unary_op, copy_at, unary_at, binary_at, cast_at, zero_at, call_at, label_at, jump_at, jump_if_not_at, return_at, instr_at, arguments_at, behind, types_at, vars_at, operands_at, lines_at, params_from, body_from, function_of}
+use Rattle.ir.specs.Function.{Line, var_at, var_operand, int_operand, float_operand, bool_operand, address_operand, data_operand, operand_at, unary_op, binary_op, copy_at, unary_at, binary_at, cast_at, zero_at, call_at, label_at, jump_at, jump_if_not_at, return_at, instr_at, arguments_at, behind, types_at, vars_at, operands_at, lines_at, params_from, body_from, function_of}
 use Rattle.layout.specs.declared.Edition.{Edition}
 use Rattle.layout.specs.Layout.{holds_var, has_dest, has_left, LaidIn}
 use Rattle.edition.specs.Editions.{id_if, operand_id, side_id, operand_ids, instr_ids, instrs_ids, param_ids, ids, agrees, var_cells, param_cells, operand_cells, dest_cells, side_cells, operands_cells, instr_cells, instrs_cells, params_cells, sheet_cells}
 use Rattle.edition.specs.Meaning.{var_of, typed_operand, typed_dest, typed_instr, typed_line, params_at, function_in, SameFunction}
 use Rattle.cells.proofs.Lists.{Holds, holds_append, holds_from, bytes_length, bytes_hold}
 use Rattle.edition.proofs.Parts.{Agree, agree_append, has_entry, own_agree, operand_length, Heads}
-use Rattle.edition.proofs.Lines.{Split, split, arguments_same, instr_length, behind_is_so}
+use Rattle.edition.proofs.Lines.{agree_instr, Split, split, arguments_same, instr_length, behind_is_so}
 use Rattle.edition.proofs.Sheets.{small_sheet, params_held, instrs_held, same, heads, agreeing}
 use Rattle.edition.proofs.Back.{goes, round_trip}
 
@@ -83,11 +83,11 @@ module _ {s t : List ℕ} (heads : Heads s t) where
   dest_same : (k j : ℕ) (has : Bool) → has ≡ true → Agree First s (id_if has k) → Holds t j (dest_cells Second s has k) → var_of t (cell_at t j) ≡ var_at s k
   unfolding var_cells
   dest_same k j true p a h = var_same k j a.0 h.1
-  dest_same k j false p a h = let z : ◌≡◌ {A = ℕ} 0 1 = cc in absurd (omega arith)
+  dest_same k j false p a h = absurd cc
 
   side_same : (k j : ℕ) (has : Bool) → has ≡ true → Agree First s (side_id s has k) → Holds t j (side_cells Second s has k) → typed_operand t (operand_at t j) ≡ operand_at s k
   side_same k j true p a h = operand_same k j a h
-  side_same k j false p a h = let z : ◌≡◌ {A = ℕ} 0 1 = cc in absurd (omega arith)
+  side_same k j false p a h = absurd cc
 
   -- what an instruction is made of
   record Alike (n k j : ℕ) : Type 0 where
@@ -101,21 +101,21 @@ module _ {s t : List ℕ} (heads : Heads s t) where
   kinds = copy_at ∷ unary_at ∷ binary_at ∷ cast_at ∷ zero_at ∷ call_at ∷ label_at ∷ jump_at ∷ jump_if_not_at ∷ return_at ∷ []
 
   call_dest : (k j : ℕ) (b : Bool) → (b ≡ true → var_of t (cell_at t (j + 2)) ≡ var_at s (k + 2)) →
-      typed_dest t (cond b (Dest.Var (var_at t (j + 2))) Dest.Nothing) ≡ cond b (Dest.Var (var_at s (k + 2))) Dest.Nothing
-  call_dest k j true f = ap Dest.Var (f refl)
+      typed_dest t (cond b (Some (var_at t (j + 2))) None) ≡ cond b (Some (var_at s (k + 2))) None
+  call_dest k j true f = ap (λ (v : VarId). Some v) (f refl)
   call_dest k j false f = refl
 
   kind_same : (n k j : ℕ) → Alike n k j → typed_instr t (get_or kinds n (λ s k. Instr.Comment) t j) ≡ get_or kinds n (λ s k. Instr.Comment) s k
   kind_same zero k j h = ap₂ Instr.Copy (h.dest refl) (h.left refl)
   kind_same (suc zero) k j h = rw h.op (ap₂ (λ (d : VarId) (x : Operand). Instr.Unary d (unary_op (cell_at s (k + 1))) x) (h.dest refl) (h.left refl))
   kind_same (suc (suc zero)) k j h =
-      rw h.op (ap₂ (λ (d : VarId) (x : Operand). Instr.Binary d (cell_at s (k + 1)) x (typed_operand t (operand_at t (j + 9)))) (h.dest refl) (h.left refl)
-      ∙ ap (λ (y : Operand). Instr.Binary (var_at s (k + 2)) (cell_at s (k + 1)) (operand_at s (k + 5)) y) (h.right refl))
+      rw h.op (ap₂ (λ (d : VarId) (x : Operand). Instr.Binary d (binary_op (cell_at s (k + 1))) x (typed_operand t (operand_at t (j + 9)))) (h.dest refl) (h.left refl)
+      ∙ ap (λ (y : Operand). Instr.Binary (var_at s (k + 2)) (binary_op (cell_at s (k + 1))) (operand_at s (k + 5)) y) (h.right refl))
   kind_same (suc (suc (suc zero))) k j h = ap₂ Instr.Cast (h.dest refl) (h.left refl)
   kind_same (suc (suc (suc (suc zero)))) k j h = ap Instr.Zero (h.dest refl)
   kind_same (suc (suc (suc (suc (suc zero))))) k j h =
       let c = h.call refl in
-      rw (h.op, c.0, c.1) (ap (λ (d : Dest). Instr.Call d (cell_at s (k + 5)) (cell_at s (k + 6))) (call_dest k j (eqb (cell_at s (k + 1)) 1) (λ p. h.dest p)))
+      rw (h.op, c.0, c.1) (ap (λ (d : Option VarId). Instr.Call d (cell_at s (k + 5)) (cell_at s (k + 6))) (call_dest k j (eqb (cell_at s (k + 1)) 1) (λ p. h.dest p)))
   kind_same (suc (suc (suc (suc (suc (suc zero)))))) k j h = ap Instr.Label h.op
   kind_same (suc (suc (suc (suc (suc (suc (suc zero))))))) k j h = ap Instr.Jump h.op
   kind_same (suc (suc (suc (suc (suc (suc (suc (suc zero)))))))) k j h = ap₂ Instr.JumpIfNot (h.left refl) h.op
@@ -131,34 +131,16 @@ module _ {s t : List ℕ} (heads : Heads s t) where
       (g.1, rw (a, b) g.2.1)
 
   alike : (k j : ℕ) → Agree First s (instr_ids s k) → Split heads First Second k j → Alike (cell_at s k) k j
-  unfolding instr_ids
   alike k j a g =
       let n = cell_at s k in
-      let has = has_dest n (cell_at s (k + 1)) in
-      let L = side_id s (has_left n) (k + 5) in
-      let R = side_id s (eqb n 2) (k + 9) in
-      let A = operand_ids s (arguments_at s k) (k + 13) in
-      let u = agree_append First s (id_if has (k + 2)) (L ++ (R ++ A)) a in
-      let v = agree_append First s L (R ++ A) u.1 in
-      let w = agree_append First s R A v.1 in
+      let p = agree_instr First s k a in
       record {
         op = g.operation;
-        dest = λ p. dest_same (k + 2) (j + 2) has p u.0 g.dest;
-        left = λ p. side_same (k + 5) (j + 5) (has_left n) p v.0 g.left;
-        right = λ p. side_same (k + 9) (j + 9) (eqb n 2) p w.0 g.right;
-        call = λ p. call_cells n k j p g.left;
+        dest = λ q. dest_same (k + 2) (j + 2) (has_dest n (cell_at s (k + 1))) q p.0 g.dest;
+        left = λ q. side_same (k + 5) (j + 5) (has_left n) q p.1 g.left;
+        right = λ q. side_same (k + 9) (j + 9) (eqb n 2) q p.2 g.right;
+        call = λ q. call_cells n k j q g.left;
       }
-
-  args_agree : (k : ℕ) → Agree First s (instr_ids s k) → Agree First s (operand_ids s (arguments_at s k) (k + 13))
-  unfolding instr_ids
-  args_agree k a =
-      let n = cell_at s k in
-      let L = side_id s (has_left n) (k + 5) in
-      let R = side_id s (eqb n 2) (k + 9) in
-      let A = operand_ids s (arguments_at s k) (k + 13) in
-      let u = agree_append First s (id_if (has_dest n (cell_at s (k + 1))) (k + 2)) (L ++ (R ++ A)) a in
-      let v = agree_append First s L (R ++ A) u.1 in
-      (agree_append First s R A v.1).1
 
   line_same : (k j : ℕ) → Agree First s (instr_ids s k) → Holds t j (instr_cells Second s k) →
       typed_line t (record { instr = instr_at t j; args = operands_at t (arguments_at t j) (j + 13) }) ≡ record { instr = instr_at s k; args = operands_at s (arguments_at s k) (k + 13) }
@@ -169,7 +151,7 @@ module _ {s t : List ℕ} (heads : Heads s t) where
       let i : typed_instr t (get_or kinds (cell_at t j) (λ s k. Instr.Comment) t j) ≡ get_or kinds (cell_at s k) (λ s k. Instr.Comment) s k
       = ap (λ (m : ℕ). typed_instr t (get_or kinds m (λ s k. Instr.Comment) t j)) g.kind ∙ kind_same (cell_at s k) k j (alike k j a g) in
       let o : map (typed_operand t) (operands_at t (arguments_at t j) (j + 13)) ≡ operands_at s (arguments_at s k) (k + 13)
-      = ap (λ (m : ℕ). map (typed_operand t) (operands_at t m (j + 13))) c ∙ operands_same (arguments_at s k) (k + 13) (j + 13) (args_agree k a) g.rest in
+      = ap (λ (m : ℕ). map (typed_operand t) (operands_at t m (j + 13))) c ∙ operands_same (arguments_at s k) (k + 13) (j + 13) (agree_instr First s k a).3 g.rest in
       ap₂ (λ (x : Instr) (xs : List Operand). record { instr = x; args = xs }) i o
 
   lines_same : (n k j : ℕ) → Agree First s (instrs_ids s n k) → Holds t j (instrs_cells Second s n k) → map (typed_line t) (lines_at t n j) ≡ lines_at s n k

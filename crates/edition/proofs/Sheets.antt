@@ -7,23 +7,25 @@ use native.Mathlib.Omega.{arith}
 use borrow.Author.Tests.{le-ltb}
 use lib.Dec.{eqb, lit≤}
 use lib.ListN.{length, length-append}
-use Rattle.cells.specs.Cells.{cells, cell_at, cells_from}
-use Rattle.cells.specs.Refusals.{torn_sheet}
+use Rattle.cells.specs.Cells.{cells, cell_at, cells_from, cell_bytes}
+use Rattle.std.specs.Prelude.{Ok}
+use Rattle.cells.specs.declared.refusals.Refusal.{Refusal}
 use Rattle.cells.proofs.Bytes.{word_lt}
 use Rattle.ir.specs.Function.{arguments_at, behind, params_from}
-use Rattle.layout.specs.declared.Checked.{Checked}
 use Rattle.layout.specs.declared.Edition.{Edition}
-use Rattle.layout.specs.declared.Limited.{Limited}
 use Rattle.layout.specs.Limits.{most_variables, most_parameters, most_labels, most_instructions}
 use Rattle.layout.specs.Layout.{cursor, end_check, return_check, param_width, body_start, holds_var, has_dest, has_left, types_check, params_in, instrs_in, rest_in, head_in, sheet_in, LaidIn}
 use Rattle.layout.proofs.Passed.{Held}
 use Rattle.layout.proofs.Laws.{RightHead, sheet_right}
-use Rattle.layout.proofs.Walk.{has_head, walk_from}
+use Rattle.layout.proofs.Walk.{has_head, has_params, walk_from}
 use Rattle.edition.specs.Editions.{param_ids, instrs_ids, ids, entry_at, own_cells, var_cells, param_cells, operand_cells, dest_cells, side_cells, operands_cells, instr_cells, instrs_cells, params_cells, sheet_cells}
-use Rattle.cells.proofs.Lists.{Holds, holds_append, holds_from, holds_starts, from_there, from_at, from_length, from_split, Small, small_append, small_from}
+use Rattle.cells.proofs.Lists.{bytes_append, Holds, holds_append, holds_from, holds_starts, from_there, from_at, from_length, from_split, Small, small_append, small_from}
 use Rattle.edition.proofs.Moves.{return_moves, limited_goes, types_each, types_move}
 use Rattle.edition.proofs.Parts.{Agree, agree_append, agree_both, Heads, Carried, params_carried, params_length}
 use Rattle.edition.proofs.Lines.{instrs_end, instrs_carried}
+use Rattle.edition.specs.Walked.{Entered}
+use Rattle.edition.proofs.Turns.{entered_parts}
+use Rattle.edition.proofs.Written.{laid_present}
 
 -- ---- every cell of a result is a cell
 
@@ -168,12 +170,12 @@ module _ (e f : Edition) (s t : List ℕ) (laid : LaidIn e s) (agree : Agree e s
   head_held : (k most : ℕ) → k < 6 → cell_at s k ≤ most → Held t k 0 most
   head_held k most l h = let q = same k (omega arith) in record { there = omega (arith, here); least = omega arith; most = omega arith }
 
-  returned : return_check t (cursor 3) ≡ Checked.Behind (cursor 5)
+  returned : return_check t (cursor 3) ≡ Ok (cursor 5)
   unfolding cells_from
   returned =
       return_moves s t 3 3 source.returned (omega (arith, here), same 3 (omega arith), (omega (arith, here), same 4 (omega arith), omega (arith, here)))
 
-  typed : types_check t (cell_at s 0) 0 (cursor 6) ≡ Checked.Behind (cursor (params_from s))
+  typed : types_check t (cell_at s 0) 0 (cursor 6) ≡ Ok (cursor (params_from s))
   typed = types_move s t (cell_at s 0) 0 6 source.types here same
 
   -- the parameters and the instructions
@@ -194,11 +196,11 @@ module _ (e f : Edition) (s t : List ℕ) (laid : LaidIn e s) (agree : Agree e s
 
   -- ---- it is right
 
-  ended : end_check torn_sheet t (cursor last) ≡ Checked.Behind (cursor last)
+  ended : end_check Refusal.TornSheet t (cursor last) ≡ Ok (cursor last)
   unfolding end_check
   ended = rw (le-ltb (last * 8) (length t) (omega (arith, whole, sheet_length e f s))) refl
 
-  head_right : head_in f t ≡ Limited.Word (cell_at s 5) (cursor (params_from s + param_width f * cell_at s 1))
+  head_right : head_in f t ≡ Ok ((cell_at s 5), (cursor (params_from s + param_width f * cell_at s 1)))
   unfolding head_in rest_in
   head_right =
       limited_goes t 0 most_variables _ (head_held 0 most_variables (lit≤ tt) source.vars) (lit≤ tt)
@@ -232,3 +234,20 @@ module _ (e f : Edition) (s t : List ℕ) (laid : LaidIn e s) (agree : Agree e s
       (ap₂ app h (ap₂ app params.again instrs.again
       ∙ from_split s (param_width e * cell_at s 1) n (params_from s) (body_start e s) (param_width e * cell_at s 1 + n) refl refl)
       ∙ from_split s (params_from s) (param_width e * cell_at s 1 + n) 0 (params_from s) (cells s) (omega arith) (cells_is e f s laid))
+
+-- ---- its parts are written, and counted
+
+pub sheet_bytes : (e f : Edition) (s : List ℕ) →
+    cell_bytes (sheet_cells e f s)
+    ≡ cell_bytes (cells_from s 0 (params_from s)) ++ (cell_bytes (params_cells e f s (cell_at s 1) (params_from s)) ++ cell_bytes (instrs_cells f s (cell_at s 5) (body_start e s)))
+unfolding sheet_cells
+sheet_bytes e f s = simp bytes_append
+
+pub sheet_entered : (e : Edition) (s : List ℕ) → Entered s (ids e s) →
+    Entered s (param_ids e s (cell_at s 1) (params_from s)) × Entered s (instrs_ids s (cell_at s 5) (body_start e s))
+unfolding ids
+sheet_entered e s h = entered_parts s (param_ids e s (cell_at s 1) (params_from s)) (instrs_ids s (cell_at s 5) (body_start e s)) h
+
+pub ruleset sheet_writing = (has_params, laid_present, sheet_bytes, sheet_entered, sheet_length)
+
+pub ruleset counting = (cells_is, sheet_length)

@@ -1,15 +1,16 @@
--- Believed: the contracts of the conversions are said with it. A public answer says a number of cells, or a refusal with its place
--- (docs/FORMAT.md, "Refusals"); a search says the cell of an id, or that there is none.
-use Rattle.std.specs.Prelude.{ℕ}
-use Rattle.std.proofs.Math.Option.{Option, none, some}
-use Rattle.cells.specs.Outcomes.{Outcome, accepted, refused}
-use Rattle.edition.specs.declared.Answer.{Answer}
-use Rattle.edition.specs.declared.entries.Stray.{Stray}
+-- Auxiliary: what the code answers where it looks ids up.
+use Rattle.std.specs.Prelude.{ℕ, List, Option, Some, None, Result, Ok}
+use Rattle.cells.specs.declared.refusals.Refusal.{Refusal}
+use Rattle.cells.specs.declared.refusals.Refused.{Refused}
+use Rattle.layout.specs.declared.Edition.{Edition}
+use Rattle.layout.specs.Layout.{refuse}
+use Rattle.edition.specs.Editions.{stray_in}
 
-abbrev pub answer_says : Answer → Outcome ℕ
-answer_says (Answer.Accepted n) = accepted n
-answer_says (Answer.Refused n place) = refused n place
+-- a stray id that was found is refused at its cell
+abbrev pub refused_if : Option ℕ → Result (Unit {0}) Refused
+refused_if None = Ok tt
+refused_if (Some k) = refuse Refusal.TypeDiffers k
 
-abbrev pub stray_says : Stray → Option ℕ
-stray_says Stray.Nowhere = none
-stray_says (Stray.At k) = some k
+-- the first stray one of these ids
+abbrev pub looked_up : Edition → List ℕ → List ℕ → Result (Unit {0}) Refused
+looked_up e s ks = refused_if (stray_in e s ks)

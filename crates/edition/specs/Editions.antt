@@ -1,13 +1,12 @@
 -- Believed: edition 2 of a sheet and the conversion both ways (docs/FORMAT.md, "Edition 2"; M-109). The layout of either edition, refusals 2 and 3, is
 -- `sheetIn` of layout/specs/Layout.antt.
-use Rattle.std.specs.Prelude.{ℕ, zero, suc, ◌+◌, ◌*◌, List, [], ◌∷◌, ◌++◌, Bool, true, cond, ◌&&◌, length, drop, ltb, eqb}
-use Rattle.std.proofs.Math.Option.{Option, none, some}
+use Rattle.std.specs.Prelude.{ℕ, zero, suc, ◌+◌, ◌*◌, List, [], ◌∷◌, ◌++◌, Bool, true, cond, ◌&&◌, length, drop, ltb, eqb, Option, Some, None}
 use Rattle.cells.specs.Cells.{cell_at, cells_from, cell_bytes}
-use Rattle.cells.specs.Outcomes.{Outcome, accepted, refused, ◌>>=◌, unless}
+use Rattle.cells.specs.Outcomes.{Outcome, accepted, refused, ◌>>=◌, outcome}
 use Rattle.cells.specs.Refusals.{page_full, type_differs}
 use Rattle.ir.specs.Function.{arguments_at, behind, params_from}
 use Rattle.layout.specs.declared.Edition.{Edition}
-use Rattle.layout.specs.Layout.{bind_checked, sheet_in, param_width, body_start, holds_var, has_dest, has_left}
+use Rattle.layout.specs.Layout.{sheet_in, param_width, body_start, holds_var, has_dest, has_left}
 
 -- the edition that a sheet is converted into
 abbrev pub other : Edition → Edition
@@ -71,8 +70,8 @@ agrees e s k = ltb (cell_at s k) (cell_at s 0) && own_agrees e s k
 
 -- the first of these ids that does not agree with its entry
 unfoldable pub stray_in : Edition → List ℕ → List ℕ → Option ℕ
-stray_in e s [] = none
-stray_in e s (k ∷ ks) = cond (agrees e s k) (stray_in e s ks) (some k)
+stray_in e s [] = None
+stray_in e s (k ∷ ks) = cond (agrees e s k) (stray_in e s ks) (Some k)
 
 -- ---- the cells of a sheet s in edition f
 
@@ -136,10 +135,15 @@ sheet_cells e f s =
 abbrev pub fitted : ℕ → List ℕ → Outcome (List ℕ)
 fitted room xs = cond (ltb room (8 * length xs)) (refused page_full (length xs)) (accepted xs)
 
+-- refused by this number at the place that was found, if one was
+abbrev pub unless : ℕ → Option ℕ → Outcome (Unit {0})
+unless n None = accepted tt
+unless n (Some place) = refused n place
+
 -- refusals 2 and 3, then 17, then 9; else the cells of the other edition
 unfoldable pub converted : Edition → List ℕ → ℕ → Outcome (List ℕ)
 converted e s room =
-    bind_checked refused (sheet_in e s) (λ end. unless type_differs (stray_in e s (ids e s)) >>= (λ u. fitted room (sheet_cells e (other e) s)))
+    outcome (sheet_in e s) >>= (λ end. unless type_differs (stray_in e s (ids e s)) >>= (λ u. fitted room (sheet_cells e (other e) s)))
 
 -- the output afterwards: the result at its start and its old content behind it, or its old content
 unfoldable pub output_after : Outcome (List ℕ) → List ℕ → List ℕ

@@ -1,11 +1,10 @@
 -- Believed: the function that a sheet of either edition holds, and that a conversion keeps it (docs/FORMAT.md, "Edition 2"; M-109). Of edition 1 it is ir's
 -- `functionOf`, which the lowering reads; in edition 2 the type of a variable is its entry's.
-use Rattle.std.specs.Prelude.{ℕ, zero, suc, ◌+◌, ◌*◌, ◌≡◌, List, [], ◌∷◌, map, take}
+use Rattle.std.specs.Prelude.{ℕ, zero, suc, ◌+◌, ◌*◌, ◌≡◌, List, [], ◌∷◌, map, take, Option, Some, None}
 use Rattle.cells.specs.Cells.{cell_at, cell_bytes, Bytes}
 use Rattle.cells.specs.Outcomes.{accepted}
 use Rattle.ir.specs.declared.VarId.{VarId}
 use Rattle.ir.specs.declared.Operand.{Operand}
-use Rattle.ir.specs.declared.Dest.{Dest}
 use Rattle.ir.specs.declared.Instr.{Instr}
 use Rattle.ir.specs.Function.{Line, Function, type_at, types_at, lines_at, params_from, function_of}
 use Rattle.layout.specs.declared.Edition.{Edition}
@@ -30,9 +29,9 @@ typed_operand s (Operand.Address v) = Operand.Address (typed_var s v)
 typed_operand s (Operand.DataAddress k) = Operand.DataAddress k
 typed_operand s Operand.Null = Operand.Null
 
-abbrev pub typed_dest : List ℕ → Dest → Dest
-typed_dest s Dest.Nothing = Dest.Nothing
-typed_dest s (Dest.Var v) = Dest.Var (typed_var s v)
+abbrev pub typed_dest : List ℕ → Option VarId → Option VarId
+typed_dest s None = None
+typed_dest s (Some v) = Some (typed_var s v)
 
 abbrev pub typed_instr : List ℕ → Instr → Instr
 typed_instr s (Instr.Copy dest src) = Instr.Copy (typed_var s dest) (typed_operand s src)

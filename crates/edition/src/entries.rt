@@ -1,159 +1,23 @@
 // The ids of a sheet are looked up among its variable types. A stray one has no entry, or its own type is not its entry's.
-ghost use Rattle.std.specs.Prelude.{◌≡◌, ◌&&◌, eqb, ◌+◌, ◌*◌, ◌≤◌};
+ghost use Rattle.std.specs.Prelude.{◌≡◌, ◌+◌, ◌*◌, ◌≤◌};
 ghost use Rattle.cells.specs.Cells.{cells, cell_at};
-ghost use Rattle.ir.specs.Function.{arguments_at, params_from};
+ghost use Rattle.ir.specs.Function.{arguments_at, behind};
 ghost use Rattle.layout.specs.Layout.{param_width, holds_var, LaidIn};
-ghost use Rattle.edition.specs.Editions.{id_if, operand_id, side_id, operand_ids, instr_ids, instrs_ids, param_ids, ids, agrees, stray_in};
-ghost use Rattle.edition.specs.Answers.{stray_says};
+ghost use Rattle.edition.specs.Editions.{id_if, operand_id, side_id, operand_ids, instr_ids, instrs_ids, param_ids, ids, agrees};
+ghost use Rattle.edition.specs.Answers.{looked_up};
 ghost use Rattle.edition.specs.Walked.{Present};
 
 use cells::cell_at;
-use ir::read::behind;
+use cells::refusals::{Refusal, Refused};
+use ir::read::{Sheet, behind, type_at};
 use layout::Edition;
 use layout::instrs::{has_dest, has_left};
-
-// A search for a stray id finds the cell of the first, or none.
-#[derive(Clone, Copy)]
-pub enum Stray {
-    Nowhere,
-    At(usize),
-}
 
 // An operand of kind 0 is a Var, one of kind 4 an Address. They hold a variable.
 pub(crate) fn holds_var(kind: u64) -> bool
     ensures { result ≡ holds_var kind }
 {
-    match kind {
-        0 => true,
-        4 => true,
-        _ => false,
-    }
-}
-
-// In edition 1 the own type of the id in cell k is compared with its entry, which starts at a cell.
-fn own_agrees(s: &[u8], k: usize, entry: usize) -> bool
-    requires k_bound { k + 3 ≤ cells s.now }
-    requires bound { entry + 2 ≤ cells s.now }
-    ensures { result ≡ (eqb (cell_at s.now (k + 1)) (cell_at s.now entry) && eqb (cell_at s.now (k + 2)) (cell_at s.now (entry + 1))) }
-{
-    if cell_at(s, k + 1) == cell_at(s, entry) {
-        return cell_at(s, k + 2) == cell_at(s, entry + 1);
-    }
-    false
-}
-
-// The id in cell k has an entry, and in edition 1 its own type is the entry's.
-fn agrees(e: Edition, s: &[u8], k: usize) -> bool
-    requires e_bound { k + param_width e ≤ cells s.now }
-    requires s_bound { params_from s.now ≤ cells s.now }
-    ensures { result ≡ agrees e s.now k }
-{
-    let id = cell_at(s, k);
-    if id < cell_at(s, 0) {
-        return match e {
-            Edition::First => own_agrees(s, k, 6 + 2 * id as usize),
-            Edition::Second => true,
-        };
-    }
-    false
-}
-
-fn id_stray(e: Edition, s: &[u8], has: bool, k: usize) -> Stray
-    requires e_bound { k + param_width e ≤ cells s.now }
-    requires s_bound { params_from s.now ≤ cells s.now }
-    ensures { stray_says result ≡ stray_in e s.now (id_if has k) }
-{
-    if has {
-        if agrees(e, s, k) {
-            return Stray::Nowhere;
-        }
-        return Stray::At(k);
-    }
-    Stray::Nowhere
-}
-
-fn operand_stray(e: Edition, s: &[u8], k: usize) -> Stray
-    requires k_bound { k + 4 ≤ cells s.now }
-    requires s_bound { params_from s.now ≤ cells s.now }
-    ensures { stray_says result ≡ stray_in e s.now (operand_id s.now k) }
-{
-    id_stray(e, s, holds_var(cell_at(s, k)), k + 1)
-}
-
-fn side_stray(e: Edition, s: &[u8], has: bool, k: usize) -> Stray
-    requires k_bound { k + 4 ≤ cells s.now }
-    requires s_bound { params_from s.now ≤ cells s.now }
-    ensures { stray_says result ≡ stray_in e s.now (side_id s.now has k) }
-{
-    if has {
-        return operand_stray(e, s, k);
-    }
-    Stray::Nowhere
-}
-
-// The arguments of a call are `n` operands from cell k on.
-fn operands_stray(e: Edition, s: &[u8], n: u64, k: usize) -> Stray
-    requires n_bound { k + 4 * n ≤ cells s.now }
-    requires s_bound { params_from s.now ≤ cells s.now }
-    ensures { stray_says result ≡ stray_in e s.now (operand_ids s.now n k) }
-{
-    let mut left = n;
-    let mut at = k;
-    while 0 < left {
-        if let Stray::At(cell) = operand_stray(e, s, at) {
-            return Stray::At(cell);
-        }
-        at += 4;
-        left -= 1;
-    }
-    Stray::Nowhere
-}
-
-// A call has arguments, and no other instruction.
-pub(crate) fn arguments(s: &[u8], k: usize) -> u64
-    requires { k + 13 ≤ cells s.now }
-    ensures { result ≡ arguments_at s.now k }
-{
-    if cell_at(s, k) == 5 {
-        return cell_at(s, k + 6);
-    }
-    0
-}
-
-// An instruction's ids are those of dest, left, right and its arguments.
-fn instr_stray(e: Edition, s: &[u8], k: usize) -> Stray
-    requires k_bound { k + 13 + 4 * arguments_at s.now k ≤ cells s.now }
-    requires s_bound { params_from s.now ≤ cells s.now }
-    ensures { stray_says result ≡ stray_in e s.now (instr_ids s.now k) }
-{
-    let kind = cell_at(s, k);
-    if let Stray::At(cell) = id_stray(e, s, has_dest(kind, cell_at(s, k + 1)), k + 2) {
-        return Stray::At(cell);
-    }
-    if let Stray::At(cell) = side_stray(e, s, has_left(kind), k + 5) {
-        return Stray::At(cell);
-    }
-    if let Stray::At(cell) = side_stray(e, s, kind == 2, k + 9) {
-        return Stray::At(cell);
-    }
-    operands_stray(e, s, arguments(s, k), k + 13)
-}
-
-fn instrs_stray(e: Edition, s: &[u8], n: u64, k: usize) -> Stray
-    requires present { Present s.now n k }
-    requires s_bound { params_from s.now ≤ cells s.now }
-    ensures { stray_says result ≡ stray_in e s.now (instrs_ids s.now n k) }
-{
-    let mut left = n;
-    let mut at = k;
-    while 0 < left {
-        if let Stray::At(cell) = instr_stray(e, s, at) {
-            return Stray::At(cell);
-        }
-        at = behind(s, at);
-        left -= 1;
-    }
-    Stray::Nowhere
+    kind == 0 || kind == 4
 }
 
 // This is the number of a parameter's cells.
@@ -166,33 +30,129 @@ pub(crate) fn param_width(e: Edition) -> usize
     }
 }
 
-fn params_stray(e: Edition, s: &[u8], n: u64, k: usize) -> Stray
-    requires n_bound { k + param_width e * n ≤ cells s.now }
-    requires s_bound { params_from s.now ≤ cells s.now }
-    ensures { stray_says result ≡ stray_in e s.now (param_ids e s.now n k) }
+// A call has arguments, and no other instruction.
+#[tactic(auto, unfolding(ir::specs::Function::arguments_at))]
+pub(crate) fn arguments(s: &[u8], k: usize) -> usize
+    requires { k + 13 ≤ cells s.now }
+    ensures { result ≡ arguments_at s.now k }
 {
-    let width = param_width(e);
-    let mut left = n;
-    let mut at = k;
-    while 0 < left {
-        if let Stray::At(cell) = id_stray(e, s, true, at) {
-            return Stray::At(cell);
-        }
-        at += width;
-        left -= 1;
+    if cell_at(s, k) == 5 {
+        cell_at(s, k + 6) as usize
+    } else {
+        0
     }
-    Stray::Nowhere
+}
+
+// The id in cell k has an entry, and in edition 1 its own type is the entry's.
+#[tactic(auto, unfolding(crate::specs::Editions::agrees))]
+fn agrees(e: Edition, sheet: &Sheet, k: usize) -> bool
+    requires { k + param_width e ≤ cells sheet.now.bytes.now }
+    ensures { result ≡ agrees e sheet.now.bytes.now k }
+{
+    let entry = sheet.entry(cell_at(sheet.bytes, k));
+    match e {
+        Edition::First => entry == Some(type_at(sheet.bytes, k + 1)),
+        Edition::Second => entry.is_some(),
+    }
+}
+
+#[tactic(auto, unfolding(crate::specs::Editions::stray_in))]
+fn look_up_id(e: Edition, sheet: &Sheet, has: bool, k: usize) -> Result<(), Refused>
+    requires { k + param_width e ≤ cells sheet.now.bytes.now }
+    ensures { result ≡ looked_up e sheet.now.bytes.now (id_if has k) }
+{
+    if has && !agrees(e, sheet, k) {
+        return Err(Refused {
+            refusal: Refusal::TypeDiffers,
+            place: k as u64,
+        });
+    }
+    Ok(())
+}
+
+fn look_up_operand(e: Edition, sheet: &Sheet, k: usize) -> Result<(), Refused>
+    requires { k + 4 ≤ cells sheet.now.bytes.now }
+    ensures { result ≡ looked_up e sheet.now.bytes.now (operand_id sheet.now.bytes.now k) }
+{
+    look_up_id(e, sheet, holds_var(cell_at(sheet.bytes, k)), k + 1)
+}
+
+#[tactic(auto, unfolding(crate::specs::Editions::stray_in))]
+fn look_up_side(e: Edition, sheet: &Sheet, has: bool, k: usize) -> Result<(), Refused>
+    requires { k + 4 ≤ cells sheet.now.bytes.now }
+    ensures { result ≡ looked_up e sheet.now.bytes.now (side_id sheet.now.bytes.now has k) }
+{
+    if has {
+        look_up_operand(e, sheet, k)
+    } else {
+        Ok(())
+    }
+}
+
+// The arguments of a call are `n` operands from cell k on.
+#[tactic(auto, using(crate::proofs::Strays::looking), unfolding(crate::specs::Editions::stray_in))]
+fn look_up_operands(e: Edition, sheet: &Sheet, n: usize, k: usize) -> Result<(), Refused>
+    requires { k + 4 * n ≤ cells sheet.now.bytes.now }
+    ensures { result ≡ looked_up e sheet.now.bytes.now (operand_ids sheet.now.bytes.now n k) }
+{
+    for i in 0..n {
+        look_up_operand(e, sheet, k + 4 * i)?;
+    }
+    Ok(())
+}
+
+// An instruction's ids are those of dest, left, right and its arguments.
+#[tactic(auto, using(crate::proofs::Strays::looking), unfolding(crate::specs::Editions::instr_ids, ir::specs::Function::behind))]
+fn look_up_instr(e: Edition, sheet: &Sheet, k: usize) -> Result<(), Refused>
+    requires { behind sheet.now.bytes.now k ≤ cells sheet.now.bytes.now }
+    ensures { result ≡ looked_up e sheet.now.bytes.now (instr_ids sheet.now.bytes.now k) }
+{
+    let s = sheet.bytes;
+    let kind = cell_at(s, k);
+    look_up_id(e, sheet, has_dest(kind, cell_at(s, k + 1)), k + 2)?;
+    look_up_side(e, sheet, has_left(kind), k + 5)?;
+    look_up_side(e, sheet, kind == 2, k + 9)?;
+    look_up_operands(e, sheet, arguments(s, k), k + 13)
+}
+
+#[tactic(auto, using(crate::proofs::Strays::looking), unfolding(crate::specs::Editions::stray_in))]
+fn look_up_instrs(e: Edition, sheet: &Sheet, n: usize, k: usize) -> Result<(), Refused>
+    requires { Present sheet.now.bytes.now n k }
+    ensures { result ≡ looked_up e sheet.now.bytes.now (instrs_ids sheet.now.bytes.now n k) }
+{
+    let mut at = k;
+    for _ in 0..n {
+        look_up_instr(e, sheet, at)?;
+        at = behind(sheet.bytes, at);
+    }
+    Ok(())
+}
+
+#[tactic(auto, using(crate::proofs::Strays::looking), unfolding(crate::specs::Editions::stray_in))]
+fn look_up_params(e: Edition, sheet: &Sheet, n: usize, k: usize) -> Result<(), Refused>
+    requires { k + param_width e * n ≤ cells sheet.now.bytes.now }
+    ensures { result ≡ looked_up e sheet.now.bytes.now (param_ids e sheet.now.bytes.now n k) }
+{
+    for i in 0..n {
+        look_up_id(e, sheet, true, k + param_width(e) * i)?;
+    }
+    Ok(())
 }
 
 // The ids of a sheet are those of its parameters, then those of its instructions.
-pub(crate) fn sheet_stray(e: Edition, s: &[u8]) -> Stray
-    requires { LaidIn e s.now }
-    ensures { stray_says result ≡ stray_in e s.now (ids e s.now) }
+#[tactic(auto, using(crate::proofs::Strays::sheet_looking), unfolding(crate::specs::Editions::ids))]
+pub(crate) fn look_up_ids(e: Edition, sheet: &Sheet) -> Result<(), Refused>
+    requires { LaidIn e sheet.now.bytes.now }
+    ensures { result ≡ looked_up e sheet.now.bytes.now (ids e sheet.now.bytes.now) }
 {
-    let params = cell_at(s, 1);
+    let s = sheet.bytes;
+    let params = cell_at(s, 1) as usize;
     let from = 6 + 2 * cell_at(s, 0) as usize;
-    if let Stray::At(cell) = params_stray(e, s, params, from) {
-        return Stray::At(cell);
-    }
-    instrs_stray(e, s, cell_at(s, 5), from + param_width(e) * params as usize)
+    look_up_params(e, sheet, params, from)?;
+    look_up_instrs(
+        e,
+        sheet,
+        cell_at(s, 5) as usize,
+        from + param_width(e) * params,
+    )
 }

@@ -1,222 +1,195 @@
-// The cells of a sheet are written in the other edition. Places in the output are numbers of cells.
-ghost use Rattle.std.specs.Prelude.{◌≡◌, [], ◌∷◌, ◌+◌, ◌*◌, ◌≤◌, ◌<◌, length};
-ghost use Rattle.cells.specs.Cells.{cells, cell_at, write, cells_from, cell_bytes};
-ghost use Rattle.ir.specs.Function.{arguments_at, params_from};
+// The parts of a sheet are written in the other edition, each into the bytes that it fills.
+ghost use Rattle.std.specs.Prelude.{◌≡◌, ◌+◌, ◌*◌, ◌≤◌, ◌<◌, length};
+ghost use Rattle.cells.specs.Cells.{cells, cell_at, cells_from, cell_bytes};
+ghost use Rattle.ir.specs.Function.{arguments_at, behind};
 ghost use Rattle.layout.specs.Layout.{param_width, LaidIn};
 ghost use Rattle.edition.specs.Editions.{id_if, operand_id, side_id, operand_ids, instr_ids, instrs_ids, param_ids, ids, own_cells, var_cells, param_cells, operand_cells, dest_cells, side_cells, operands_cells, instr_cells, instrs_cells, params_cells, sheet_cells};
 ghost use Rattle.edition.specs.Walked.{Entered, Present};
 
 use crate::entries::{arguments, holds_var, param_width};
-use cells::{cell_at, put_word};
-use ir::read::behind;
+use cells::cell_at;
+use ir::read::{Sheet, behind};
 use layout::Edition;
 use layout::instrs::{has_dest, has_left};
 
-fn put_cell(out: &mut [u8], at: usize, v: u64)
-    requires { (at + 1) * 8 ≤ length out.old }
-    ensures { out.new ≡ write out.old (at * 8) (cell_bytes (v ∷ [])) }
-{
-    put_word(out, at * 8, v);
-}
-
 // It copies the `n` cells from cell k on.
-fn copy_cells(s: &[u8], k: usize, n: usize, out: &mut [u8], at: usize)
-    requires n_bound { k + n ≤ cells s.now }
-    requires n_in_bounds { (at + n) * 8 ≤ length out.old }
-    ensures { out.new ≡ write out.old (at * 8) (cell_bytes (cells_from s.now k n)) }
+fn copy_cells(s: &[u8], k: usize, n: usize, out: &mut [u8])
+    requires there { k + n ≤ cells s.now }
+    requires room { length out.old ≡ 8 * n }
+    ensures { out.new ≡ cell_bytes (cells_from s.now k n) }
 {
-    let mut i = 0;
-    while i < n {
-        put_cell(out, at + i, cell_at(s, k + i));
-        i += 1;
-    }
+    out.copy_from_slice(&s[8 * k..8 * (k + n)]);
 }
 
 // It writes the own type of an id that has an entry: the entry in edition 1, zeros in edition 2.
-fn put_own(f: Edition, s: &[u8], id: u64, out: &mut [u8], at: usize)
-    requires id_bound { id < cell_at s.now 0 }
-    requires s_bound { params_from s.now ≤ cells s.now }
-    requires at_in_bounds { (at + 2) * 8 ≤ length out.old }
-    ensures { out.new ≡ write out.old (at * 8) (cell_bytes (own_cells f s.now id)) }
+#[tactic(auto, unfolding(cells::specs::Cells::cells_from, cells::specs::Cells::cell_bytes, cells::specs::Cells::bytes_of))]
+fn put_own(f: Edition, sheet: &Sheet, id: u64, out: &mut [u8])
+    requires entered { id < cell_at sheet.now.bytes.now 0 }
+    requires room { length out.old ≡ 16 }
+    ensures { out.new ≡ cell_bytes (own_cells f sheet.now.bytes.now id) }
 {
     match f {
-        Edition::First => {
-            copy_cells(s, 6 + 2 * id as usize, 2, out, at);
-        }
-        Edition::Second => {
-            put_cell(out, at, 0);
-            put_cell(out, at + 1, 0);
-        }
+        Edition::First => copy_cells(sheet.bytes, 6 + 2 * id as usize, 2, out),
+        Edition::Second => out.fill(0),
     }
 }
 
 // It writes the variable whose id is in cell k.
-fn put_var(f: Edition, s: &[u8], k: usize, out: &mut [u8], at: usize)
-    requires k_bound { k < cells s.now }
-    requires k_bound_2 { cell_at s.now k < cell_at s.now 0 }
-    requires s_bound { params_from s.now ≤ cells s.now }
-    requires at_in_bounds { (at + 3) * 8 ≤ length out.old }
-    ensures { out.new ≡ write out.old (at * 8) (cell_bytes (var_cells f s.now k)) }
+#[tactic(auto, using(crate::proofs::Written::behind_cell), unfolding(cells::specs::Cells::cells_from, crate::specs::Editions::var_cells))]
+fn put_var(f: Edition, sheet: &Sheet, k: usize, out: &mut [u8])
+    requires there { k < cells sheet.now.bytes.now }
+    requires entered { cell_at sheet.now.bytes.now k < cell_at sheet.now.bytes.now 0 }
+    requires room { length out.old ≡ 24 }
+    ensures { out.new ≡ cell_bytes (var_cells f sheet.now.bytes.now k) }
 {
-    let id = cell_at(s, k);
-    put_cell(out, at, id);
-    put_own(f, s, id, out, at + 1);
+    let (id, own) = out.split_at_mut(8);
+    copy_cells(sheet.bytes, k, 1, id);
+    put_own(f, sheet, cell_at(sheet.bytes, k), own);
 }
 
-fn put_operand(f: Edition, s: &[u8], k: usize, out: &mut [u8], at: usize)
-    requires k_bound { k + 4 ≤ cells s.now }
-    requires entered { Entered s.now (operand_id s.now k) }
-    requires s_bound { params_from s.now ≤ cells s.now }
-    requires at_in_bounds { (at + 4) * 8 ≤ length out.old }
-    ensures { out.new ≡ write out.old (at * 8) (cell_bytes (operand_cells f s.now k)) }
-{
-    let kind = cell_at(s, k);
-    if holds_var(kind) {
-        put_cell(out, at, kind);
-        put_var(f, s, k + 1, out, at + 1);
-    } else {
-        copy_cells(s, k, 4, out, at);
-    }
-}
-
-// A dest is a variable. Where an instruction has none, its three cells are cells_from.
-fn put_dest(f: Edition, s: &[u8], has: bool, k: usize, out: &mut [u8], at: usize)
-    requires k_bound { k + 3 ≤ cells s.now }
-    requires entered { Entered s.now (id_if has k) }
-    requires s_bound { params_from s.now ≤ cells s.now }
-    requires at_in_bounds { (at + 3) * 8 ≤ length out.old }
-    ensures { out.new ≡ write out.old (at * 8) (cell_bytes (dest_cells f s.now has k)) }
+// A dest is a variable. Where an instruction has none, its three cells are copied.
+fn put_dest(f: Edition, sheet: &Sheet, has: bool, k: usize, out: &mut [u8])
+    requires there { k + 3 ≤ cells sheet.now.bytes.now }
+    requires entered { Entered sheet.now.bytes.now (id_if has k) }
+    requires room { length out.old ≡ 24 }
+    ensures { out.new ≡ cell_bytes (dest_cells f sheet.now.bytes.now has k) }
 {
     if has {
-        put_var(f, s, k, out, at);
+        put_var(f, sheet, k, out);
     } else {
-        copy_cells(s, k, 3, out, at);
+        copy_cells(sheet.bytes, k, 3, out);
     }
 }
 
-// Left or right is an operand. Where an instruction has none, its four cells are cells_from.
-fn put_side(f: Edition, s: &[u8], has: bool, k: usize, out: &mut [u8], at: usize)
-    requires k_bound { k + 4 ≤ cells s.now }
-    requires entered { Entered s.now (side_id s.now has k) }
-    requires s_bound { params_from s.now ≤ cells s.now }
-    requires at_in_bounds { (at + 4) * 8 ≤ length out.old }
-    ensures { out.new ≡ write out.old (at * 8) (cell_bytes (side_cells f s.now has k)) }
+// An operand is its kind and what stands in a dest's place, a variable or three cells.
+#[tactic(auto, using(crate::proofs::Written::behind_cell), unfolding(cells::specs::Cells::cells_from, crate::specs::Editions::operand_cells))]
+fn put_operand(f: Edition, sheet: &Sheet, k: usize, out: &mut [u8])
+    requires there { k + 4 ≤ cells sheet.now.bytes.now }
+    requires entered { Entered sheet.now.bytes.now (operand_id sheet.now.bytes.now k) }
+    requires room { length out.old ≡ 32 }
+    ensures { out.new ≡ cell_bytes (operand_cells f sheet.now.bytes.now k) }
+{
+    let (kind, fields) = out.split_at_mut(8);
+    copy_cells(sheet.bytes, k, 1, kind);
+    put_dest(f, sheet, holds_var(cell_at(sheet.bytes, k)), k + 1, fields);
+}
+
+// Left or right is an operand. Where an instruction has none, its four cells are copied.
+fn put_side(f: Edition, sheet: &Sheet, has: bool, k: usize, out: &mut [u8])
+    requires there { k + 4 ≤ cells sheet.now.bytes.now }
+    requires entered { Entered sheet.now.bytes.now (side_id sheet.now.bytes.now has k) }
+    requires room { length out.old ≡ 32 }
+    ensures { out.new ≡ cell_bytes (side_cells f sheet.now.bytes.now has k) }
 {
     if has {
-        put_operand(f, s, k, out, at);
+        put_operand(f, sheet, k, out);
     } else {
-        copy_cells(s, k, 4, out, at);
+        copy_cells(sheet.bytes, k, 4, out);
     }
 }
 
-fn put_operands(f: Edition, s: &[u8], n: u64, k: usize, out: &mut [u8], at: usize)
-    requires n_bound { k + 4 * n ≤ cells s.now }
-    requires entered { Entered s.now (operand_ids s.now n k) }
-    requires s_bound { params_from s.now ≤ cells s.now }
-    requires n_in_bounds { (at + 4 * n) * 8 ≤ length out.old }
-    ensures { out.new ≡ write out.old (at * 8) (cell_bytes (operands_cells f s.now n k)) }
+#[tactic(auto, using(crate::proofs::Parts::operands_length))]
+fn put_operands(f: Edition, sheet: &Sheet, n: usize, k: usize, out: &mut [u8])
+    requires there { k + 4 * n ≤ cells sheet.now.bytes.now }
+    requires entered { Entered sheet.now.bytes.now (operand_ids sheet.now.bytes.now n k) }
+    requires room { length out.old ≡ 32 * n }
+    ensures { out.new ≡ cell_bytes (operands_cells f sheet.now.bytes.now n k) }
 {
-    let mut left = n;
-    let mut from = k;
-    let mut to = at;
-    while 0 < left {
-        put_operand(f, s, from, out, to);
-        from += 4;
-        to += 4;
-        left -= 1;
+    for i in 0..n {
+        put_operand(f, sheet, k + 4 * i, &mut out[32 * i..32 * (i + 1)]);
     }
 }
 
 // An instruction is its kind and operation, dest, left, right and a call's arguments.
-fn put_instr(f: Edition, s: &[u8], k: usize, out: &mut [u8], at: usize)
-    requires k_bound { k + 13 + 4 * arguments_at s.now k ≤ cells s.now }
-    requires entered { Entered s.now (instr_ids s.now k) }
-    requires s_bound { params_from s.now ≤ cells s.now }
-    requires k_in_bounds { (at + (13 + 4 * arguments_at s.now k)) * 8 ≤ length out.old }
-    ensures { out.new ≡ write out.old (at * 8) (cell_bytes (instr_cells f s.now k)) }
+#[tactic(auto, using(crate::proofs::Written::instr_written), unfolding(ir::specs::Function::behind, crate::specs::Editions::instr_ids, crate::specs::Editions::instr_cells))]
+fn put_instr(f: Edition, sheet: &Sheet, k: usize, out: &mut [u8])
+    requires there { behind sheet.now.bytes.now k ≤ cells sheet.now.bytes.now }
+    requires entered { Entered sheet.now.bytes.now (instr_ids sheet.now.bytes.now k) }
+    requires room { length out.old ≡ 8 * (13 + 4 * arguments_at sheet.now.bytes.now k) }
+    ensures { out.new ≡ cell_bytes (instr_cells f sheet.now.bytes.now k) }
 {
+    let s = sheet.bytes;
     let kind = cell_at(s, k);
-    copy_cells(s, k, 2, out, at);
-    put_dest(f, s, has_dest(kind, cell_at(s, k + 1)), k + 2, out, at + 2);
-    put_side(f, s, has_left(kind), k + 5, out, at + 5);
-    put_side(f, s, kind == 2, k + 9, out, at + 9);
-    put_operands(f, s, arguments(s, k), k + 13, out, at + 13);
+    let (kinds, rest) = out.split_at_mut(16);
+    let (dest, rest) = rest.split_at_mut(24);
+    let (left, rest) = rest.split_at_mut(32);
+    let (right, rest) = rest.split_at_mut(32);
+    copy_cells(s, k, 2, kinds);
+    put_dest(f, sheet, has_dest(kind, cell_at(s, k + 1)), k + 2, dest);
+    put_side(f, sheet, has_left(kind), k + 5, left);
+    put_side(f, sheet, kind == 2, k + 9, right);
+    put_operands(f, sheet, arguments(s, k), k + 13, rest);
 }
 
 // Instructions have as many cells in both editions.
-fn put_instrs(f: Edition, s: &[u8], n: u64, k: usize, out: &mut [u8], at: usize)
-    requires present { Present s.now n k }
-    requires entered { Entered s.now (instrs_ids s.now n k) }
-    requires s_bound { params_from s.now ≤ cells s.now }
-    requires k_in_bounds { (at + length (instrs_cells f s.now n k)) * 8 ≤ length out.old }
-    ensures { out.new ≡ write out.old (at * 8) (cell_bytes (instrs_cells f s.now n k)) }
+#[tactic(auto, using(crate::proofs::Written::instrs_there))]
+fn put_instrs(f: Edition, sheet: &Sheet, n: usize, k: usize, out: &mut [u8])
+    requires present { Present sheet.now.bytes.now n k }
+    requires entered { Entered sheet.now.bytes.now (instrs_ids sheet.now.bytes.now n k) }
+    requires room { length out.old ≡ 8 * length (instrs_cells f sheet.now.bytes.now n k) }
+    ensures { out.new ≡ cell_bytes (instrs_cells f sheet.now.bytes.now n k) }
 {
-    let mut left = n;
-    let mut from = k;
-    let mut to = at;
-    while 0 < left {
-        put_instr(f, s, from, out, to);
-        let next = behind(s, from);
-        to += next - from;
-        from = next;
-        left -= 1;
+    let mut at = k;
+    for _ in 0..n {
+        let next = behind(sheet.bytes, at);
+        put_instr(f, sheet, at, &mut out[8 * (at - k)..8 * (next - k)]);
+        at = next;
     }
 }
 
 // A parameter is a variable. In edition 2 it is its id alone.
-fn put_param(f: Edition, s: &[u8], k: usize, out: &mut [u8], at: usize)
-    requires k_bound { k < cells s.now }
-    requires k_bound_2 { cell_at s.now k < cell_at s.now 0 }
-    requires s_bound { params_from s.now ≤ cells s.now }
-    requires f_in_bounds { (at + param_width f) * 8 ≤ length out.old }
-    ensures { out.new ≡ write out.old (at * 8) (cell_bytes (param_cells f s.now k)) }
+#[tactic(auto, unfolding(cells::specs::Cells::cells_from, crate::specs::Editions::param_cells))]
+fn put_param(f: Edition, sheet: &Sheet, k: usize, out: &mut [u8])
+    requires there { k < cells sheet.now.bytes.now }
+    requires entered { cell_at sheet.now.bytes.now k < cell_at sheet.now.bytes.now 0 }
+    requires room { length out.old ≡ 8 * param_width f }
+    ensures { out.new ≡ cell_bytes (param_cells f sheet.now.bytes.now k) }
 {
     match f {
-        Edition::First => {
-            put_var(Edition::First, s, k, out, at);
-        }
-        Edition::Second => {
-            put_cell(out, at, cell_at(s, k));
-        }
+        Edition::First => put_var(f, sheet, k, out),
+        Edition::Second => copy_cells(sheet.bytes, k, 1, out),
     }
 }
 
 // These are `n` parameters of edition e.
-fn put_params(e: Edition, f: Edition, s: &[u8], n: u64, k: usize, out: &mut [u8], at: usize)
-    requires n_bound { k + param_width e * n ≤ cells s.now }
-    requires entered { Entered s.now (param_ids e s.now n k) }
-    requires s_bound { params_from s.now ≤ cells s.now }
-    requires n_in_bounds { (at + param_width f * n) * 8 ≤ length out.old }
-    ensures { out.new ≡ write out.old (at * 8) (cell_bytes (params_cells e f s.now n k)) }
+#[tactic(auto, using(crate::proofs::Parts::params_length))]
+fn put_params(e: Edition, f: Edition, sheet: &Sheet, n: usize, k: usize, out: &mut [u8])
+    requires there { k + param_width e * n ≤ cells sheet.now.bytes.now }
+    requires entered { Entered sheet.now.bytes.now (param_ids e sheet.now.bytes.now n k) }
+    requires room { length out.old ≡ 8 * (param_width f * n) }
+    ensures { out.new ≡ cell_bytes (params_cells e f sheet.now.bytes.now n k) }
 {
-    let mut left = n;
-    let mut from = k;
-    let mut to = at;
-    while 0 < left {
-        put_param(f, s, from, out, to);
-        from += param_width(e);
-        to += param_width(f);
-        left -= 1;
+    let size = 8 * param_width(f);
+    for i in 0..n {
+        put_param(
+            f,
+            sheet,
+            k + param_width(e) * i,
+            &mut out[size * i..size * (i + 1)],
+        );
     }
 }
 
-// The header and the variable types are cells_from; the parameters and the instructions follow in edition f.
-pub(crate) fn put_sheet(e: Edition, f: Edition, s: &[u8], out: &mut [u8])
-    requires laid_in { LaidIn e s.now }
-    requires entered { Entered s.now (ids e s.now) }
-    requires s_in_bounds { 8 * length (sheet_cells e f s.now) ≤ length out.old }
-    ensures { out.new ≡ write out.old 0 (cell_bytes (sheet_cells e f s.now)) }
+// The header and the variable types are copied; the parameters and the instructions follow in edition f.
+#[tactic(auto, using(crate::proofs::Sheets::sheet_writing))]
+pub(crate) fn put_sheet(e: Edition, f: Edition, sheet: &Sheet, out: &mut [u8])
+    requires laid { LaidIn e sheet.now.bytes.now }
+    requires entered { Entered sheet.now.bytes.now (ids e sheet.now.bytes.now) }
+    requires room { length out.old ≡ 8 * length (sheet_cells e f sheet.now.bytes.now) }
+    ensures { out.new ≡ cell_bytes (sheet_cells e f sheet.now.bytes.now) }
 {
-    let params = cell_at(s, 1);
+    let s = sheet.bytes;
+    let params = cell_at(s, 1) as usize;
     let from = 6 + 2 * cell_at(s, 0) as usize;
-    copy_cells(s, 0, from, out, 0);
-    put_params(e, f, s, params, from, out, from);
+    let (head, rest) = out.split_at_mut(8 * from);
+    let (listed, body) = rest.split_at_mut(8 * (param_width(f) * params));
+    copy_cells(s, 0, from, head);
+    put_params(e, f, sheet, params, from, listed);
     put_instrs(
         f,
-        s,
-        cell_at(s, 5),
-        from + param_width(e) * params as usize,
-        out,
-        from + param_width(f) * params as usize,
+        sheet,
+        cell_at(s, 5) as usize,
+        from + param_width(e) * params,
+        body,
     );
 }

@@ -1,74 +1,23 @@
-use Prim.Native.Nat.{◌-◌}
-use native.Mathlib.Omega.{arith}
-use Rattle.ir.specs.Function.{behind}
-use Rattle.edition.specs.Editions.{instr_ids, instrs_ids, instr_cells, instrs_cells}
-use Rattle.edition.proofs.Lines.{behind_is_so, instr_length}
-use Rattle.edition.proofs.Written.{begins, long, fits, goes_on, ends, entered_first}
+use Rattle.std.proofs.Common.{arith}
+use Rattle.edition.proofs.Lines.{instr_length, behind_is_so}
 use Rattle.edition.proofs.Turns.{instr_ids_on, instrs_on, instrs_off, present_on}
+use Rattle.edition.proofs.Written.{first, goes_on, ends}
 use Rattle.edition.proofs.write.put_instrs.Goals as goal
 
-pub loop-left-init : goal.loop-left-init
-loop-left-init c =
-    (begins _ _ _ c.requires.k_in_bounds, c.requires.present, c.requires.entered)
-
-pub put_instr-requires : goal.put_instr-requires
-put_instr-requires c =
-    let t = c.loop-left-test.true in
-    let l = c.loop-left in
-    let s = c.args.s.now in
-    let f = c.args.f in record {
-      k_bound = omega (arith, (present_on s l.left l.from t l.invariant.1).0, behind_is_so s l.from);
-      entered = (entered_first s _ (instr_ids s l.from) (instrs_ids s (l.left - 1) (behind s l.from)) (instr_ids_on s l.left l.from t) l.invariant.2).0;
-      s_bound = c.requires.s_bound;
-      k_in_bounds = omega (
-        arith,
-        fits l.invariant.0 (instr_cells f s l.from) (instrs_cells f s (l.left - 1) (behind s l.from)) (instrs_on s f l.left l.from t),
-        instr_length f s l.from,
-      );
-    }
-
-pub behind-next-requires : goal.behind-next-requires
-behind-next-requires c =
-    let l = c.loop-left in
-    (present_on _ l.left l.from c.loop-left-test.true l.invariant.1).0
-
-pub overflow_sub-to : goal.overflow_sub-to
-overflow_sub-to c =
-    let l = c.loop-left in
-    omega (arith, c.behind-next.ensures, behind_is_so c.args.s.now l.from)
-
-pub overflow_add-to : goal.overflow_add-to
-overflow_add-to c =
-    let l = c.loop-left in
-    let a = c.args in
-    let s = a.s.now in
-    omega (
-      arith,
-      long l.invariant.0,
-      fits l.invariant.0 (instr_cells a.f s l.from) (instrs_cells a.f s (l.left - 1) (behind s l.from)) (instrs_on s a.f l.left l.from c.loop-left-test.true),
-      instr_length a.f s l.from,
-      c.behind-next.ensures,
-      behind_is_so s l.from,
-    )
-
-pub loop-left-preserved : goal.loop-left-preserved
-loop-left-preserved c =
-    let l = c.loop-left in
-    let a = c.args in
-    let s = a.s.now in
-    let f = a.f in
-    let t = c.loop-left-test.true in
-    rw c.behind-next.ensures (
-      goes_on l.invariant.0 (instr_cells f s l.from) (instrs_cells f s (l.left - 1) (behind s l.from)) (instrs_on s f l.left l.from t) c.put_instr.ensures
-          (omega (arith, instr_length f s l.from, behind_is_so s l.from)),
-      (present_on s l.left l.from t l.invariant.1).1,
-      (entered_first s _ (instr_ids s l.from) (instrs_ids s (l.left - 1) (behind s l.from)) (instr_ids_on s l.left l.from t) l.invariant.2).1,
-    )
-
-pub shape_of-out : goal.shape_of-out
-shape_of-out c = long c.loop-left.invariant.0
+pub put_instr-requires-clause-entered : goal.put_instr-requires-clause-entered
+put_instr-requires-clause-entered c = first _ _ _ c.loop.invariant.0 _ _ (instr_ids_on _ _ _ _ c.loop-test.true)
 
 pub returns : goal.returns
-returns c =
-    let a = c.args in
-    ends c.loop-left.invariant.0 (instrs_off a.s.now a.f c.loop-left.left c.loop-left.from c.loop-left-test.false)
+returns c = ends _ _ _ c.loop.invariant.0 (instrs_off _ _ _ _ _ c.loop-test.false)
+
+pub loop-preserved : goal.loop-preserved
+loop-preserved c =
+    let s = c.args.sheet.now.bytes.now in
+    let l = c.loop in
+    let b = behind_is_so s l.at in
+    let p = present_on s c.args.n l.counter l.at c.loop-test.true l.invariant.2 in (
+      goes_on _ _ _ l.invariant.0 _ _ (instr_ids_on _ _ _ _ c.loop-test.true) _ (instrs_on _ _ _ _ _ c.loop-test.true) _ _ _ c.behind-next.ensures
+          (omega (arith, c.behind-next.ensures, instr_length c.args.f s l.at)) c.put_instr.ensures,
+      omega (arith, c.behind-next.ensures),
+      rw c.behind-next.ensures p.1,
+    )

@@ -1,11 +1,10 @@
+use Rattle.std.proofs.Common.{◌-◌, ◌*◌, ◌≤◌}
 use Rattle.edition.specs.Editions.{instrs_ids, instrs_cells}
-use Rattle.edition.specs.Walked.{Entered, Present}
-use Rattle.edition.proofs.Written.{Written}
+use Rattle.edition.specs.Walked.{Present}
+use Rattle.edition.proofs.Written.{Writing}
 use Rattle.edition.proofs.write.put_instrs.Given as goal
 
-abbrev pub invariant-loop-left : goal.invariant-loop-left
-invariant-loop-left l =
-    Written (instrs_cells l.f l.s l.n l.k) l.at l.initial.out (instrs_cells l.f l.s l.left l.from) l.to l.out × Present l.s l.left l.from × Entered l.s (instrs_ids l.s l.left l.from)
-
-abbrev pub decreases-loop-left : goal.decreases-loop-left
-decreases-loop-left l = l.left
+abbrev pub invariant-loop : goal.invariant-loop
+invariant-loop l =
+    let s = l.sheet.bytes.now in
+    Writing s (instrs_ids s) (instrs_cells l.f s) l.n l.k l.counter l.at (8 * (l.at - l.k)) l.out × (l.k ≤ l.at) × Present s (l.n - l.counter) l.at

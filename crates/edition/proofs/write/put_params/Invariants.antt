@@ -1,14 +1,10 @@
-use Prim.Native.Nat.{◌+◌, ◌*◌, ◌≤◌}
-use Rattle.cells.specs.Cells.{cells}
+use Rattle.std.proofs.Common.{◌+◌, ◌*◌}
 use Rattle.layout.specs.Layout.{param_width}
 use Rattle.edition.specs.Editions.{param_ids, params_cells}
-use Rattle.edition.specs.Walked.{Entered}
-use Rattle.edition.proofs.Written.{Written}
+use Rattle.edition.proofs.Written.{Writing}
 use Rattle.edition.proofs.write.put_params.Given as goal
 
-abbrev pub invariant-loop-left : goal.invariant-loop-left
-invariant-loop-left l =
-    Written (params_cells l.e l.f l.s l.n l.k) l.at l.initial.out (params_cells l.e l.f l.s l.left l.from) l.to l.out × (l.from + param_width l.e * l.left ≤ cells l.s) × Entered l.s (param_ids l.e l.s l.left l.from)
-
-abbrev pub decreases-loop-left : goal.decreases-loop-left
-decreases-loop-left l = l.left
+abbrev pub invariant-loop-i : goal.invariant-loop-i
+invariant-loop-i l =
+    let s = l.sheet.bytes.now in
+    Writing s (param_ids l.e s) (params_cells l.e l.f s) l.n l.k l.i (l.k + param_width l.e * l.i) (l.size * l.i) l.out
