@@ -3,6 +3,7 @@ use Rattle.std.specs.Prelude.{ℕ, ◌+◌, ◌*◌, Bool, cond, List, [], ◌�
 use Rattle.std.specs.Bool.{beq}
 use Rattle.ir.specs.declared.VarId.{VarId}
 use Rattle.ir.specs.Types.{Result, ok, ◌>>=◌, is_float}
+use Rattle.ir.specs.Function.{vars_at}
 use Rattle.x86.specs.declared.register.Register.{Register}
 use Rattle.x86.specs.declared.enums.Size.{Size}
 use Rattle.x86.specs.declared.enums.BinOp.{BinOp}
@@ -15,6 +16,11 @@ use Rattle.codegen.specs.Utils.{var_size, convert_var, load_from}
 use Rattle.codegen.specs.Instructions.{move}
 use Rattle.codegen.specs.Frame.{registers_of, store_of}
 use Rattle.utils.specs.declared.slots.Slot.{Slot}
+use Rattle.frame.specs.declared.parameters.Parameters.{Parameters}
+
+-- the parameters that the code holds
+abbrev pub params_of : Parameters → List VarId
+params_of p = vars_at p.sheet.now p.count p.from
 
 -- `push rbp ; mov rbp, rsp ; sub rsp, bytes`
 abbrev pub entering : ℕ → List Instruction
