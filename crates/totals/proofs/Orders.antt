@@ -47,11 +47,11 @@ newest_first tables p = ap (λ (t : Totals). packed p (accepted t)) (any_order t
 -- ---- bad tables
 
 -- they refuse every sheet
-turned_away : (tables s : List ℕ) (t : Totals) {n k : ℕ} → tables_check tables ≡ Checked.Refused n k → with_sheet t (compiled tables s) ≡ totals t.records (t.refused + 1)
+turned_away : (tables s : List ℕ) (t : Totals) {r : Refused} → tables_check tables ≡ Err r → with_sheet t (compiled tables s) ≡ totals t.records (t.refused + 1)
 unfolding compiled
 turned_away tables s t e = rw e
 
-all_away : (tables p : List ℕ) {n k : ℕ} → tables_check tables ≡ Checked.Refused n k → (t : Totals) (m i : ℕ) → taken tables t (sheets_at p m i) ≡ totals t.records (t.refused + m)
+all_away : (tables p : List ℕ) {r : Refused} → tables_check tables ≡ Err r → (t : Totals) (m i : ℕ) → taken tables t (sheets_at p m i) ≡ totals t.records (t.refused + m)
 unfolding taken sheets_at
 all_away tables p e t zero i = ap (totals t.records) (omega arith)
 all_away tables p e t (suc m) i =
@@ -61,4 +61,4 @@ all_away tables p e t (suc m) i =
 
 pub bad_tables : BadTables
 unfolding pack_totals
-bad_tables tables p n k e = ap (λ (t : Totals). packed p (accepted t)) (all_away tables p e (totals 0 0) (sheet_count p) 0 ∙ ap (totals 0) (omega arith))
+bad_tables tables p r e = ap (λ (t : Totals). packed p (accepted t)) (all_away tables p e (totals 0 0) (sheet_count p) 0 ∙ ap (totals 0) (omega arith))
