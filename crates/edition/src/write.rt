@@ -61,7 +61,7 @@ fn put_dest(f: Edition, sheet: &Sheet, has: bool, k: usize, out: &mut [u8])
     }
 }
 
-// An operand is its kind and what stands in a dest's place, a variable or three cells.
+// An operand is its kind and then, as in a dest's place, a variable or three cells that are copied.
 #[tactic(auto, using(crate::proofs::Written::behind_cell), unfolding(cells::specs::Cells::cells_from, crate::specs::Editions::operand_cells))]
 fn put_operand(f: Edition, sheet: &Sheet, k: usize, out: &mut [u8])
     requires there { k + 4 ≤ cells sheet.now.bytes.now }
