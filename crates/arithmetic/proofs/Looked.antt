@@ -1,9 +1,8 @@
 -- The list of `generate_unary`, made of what its look-ups find.
-use mathlib.Core.Path.{◌≡◌, refl}
+use mathlib.Core.Path.{◌≡◌, refl, sym, ◌∙◌}
 use mathlib.Core.List.{[], ◌∷◌}
 use mathlib.Core.Bool.{Bool, true, false, cond}
 use Prim.Native.Nat.{ℕ}
-use native.Mathlib.Omega.{arith}
 use Rattle.ir.specs.declared.VarId.{VarId}
 use Rattle.ir.specs.declared.Operand.{Operand as IrOp}
 use Rattle.ir.specs.declared.UnaryOp.{UnaryOp as IrUnary}
@@ -20,32 +19,33 @@ use Rattle.arithmetic.specs.Unary.{look_unary, is_negation, flips_sign, unary_re
 -- where a sign bit is flipped, and where not
 flips : (op : IrUnary) (float : Bool) (z : Size) → cond (is_negation op) float false ≡ true → unary_records op float z ≡ unary_records IrUnary.Neg true z
 flips IrUnary.Neg true z e = refl
-flips IrUnary.Neg false z e = absurd (let n : ◌≡◌ {A = ℕ} 0 1 = cc in omega arith)
-flips IrUnary.BitNot float z e = absurd (let n : ◌≡◌ {A = ℕ} 0 1 = cc in omega arith)
-flips IrUnary.Not float z e = absurd (let n : ◌≡◌ {A = ℕ} 0 1 = cc in omega arith)
+flips IrUnary.Neg false z e = cc
+flips IrUnary.BitNot float z e = cc
+flips IrUnary.Not float z e = cc
 
 keeps : (op : IrUnary) (float : Bool) (z : Size) → cond (is_negation op) float false ≡ false → unary_records op float z ≡ unary_record op z ∷ []
-keeps IrUnary.Neg true z e = absurd (let n : ◌≡◌ {A = ℕ} 0 1 = cc in omega arith)
+keeps IrUnary.Neg true z e = cc
 keeps IrUnary.Neg false z e = refl
 keeps IrUnary.BitNot float z e = refl
 keeps IrUnary.Not float z e = refl
 
-module _ (ctx : Context) (dest : VarId) (op : IrUnary) (src : IrOp) where
-  pub sign_looked : flips_sign op dest.ty ≡ true → generate_unary ctx dest op src ≡ listed (look_unary ctx dest src) sign_of
+-- `b` is what the code found
+module _ (ctx : Context) (dest : VarId) (op : IrUnary) (src : IrOp) {b : Bool} (f : b ≡ flips_sign op dest.ty) where
+  pub sign_looked : b ≡ true → generate_unary ctx dest op src ≡ listed (look_unary ctx dest src) sign_of
   unfolding generate_unary
   sign_looked e =
       rung_of (var_size dest) _ _ _ (var_given dest)
-      (λ z s. rung_load ctx RAX src z _ _ _ s (λ x. rung (convert_var ctx dest) _ _ _ (λ v. rw (flips op (is_float dest.ty) z e))))
+      (λ z s. rung_load ctx RAX src z _ _ _ s (λ x. rung (convert_var ctx dest) _ _ _ (λ v. rw (flips op (is_float dest.ty) z (sym f ∙ e)))))
 
-  pub unary_looked : flips_sign op dest.ty ≡ false → generate_unary ctx dest op src ≡ listed (look_unary ctx dest src) (λ t. changed_of (unary_record op t.size) t)
+  pub unary_looked : b ≡ false → generate_unary ctx dest op src ≡ listed (look_unary ctx dest src) (λ t. changed_of (unary_record op t.dest.size) t)
   unfolding generate_unary
   unary_looked e =
       rung_of (var_size dest) _ _ _ (var_given dest)
-      (λ z s. rung_load ctx RAX src z _ _ _ s (λ x. rung (convert_var ctx dest) _ _ _ (λ v. rw (keeps op (is_float dest.ty) z e))))
+      (λ z s. rung_load ctx RAX src z _ _ _ s (λ x. rung (convert_var ctx dest) _ _ _ (λ v. rw (keeps op (is_float dest.ty) z (sym f ∙ e)))))
 
-  pub refused_unary : {n : ℕ} → look_unary ctx dest src ≡ refused n → generate_unary ctx dest op src ≡ refused n
-  refused_unary {n} e = go (flips_sign op dest.ty) refl
-    where
-      go : (b : Bool) → flips_sign op dest.ty ≡ b → generate_unary ctx dest op src ≡ refused n
-      go true f = rw e at (sign_looked f)
-      go false f = rw e at (unary_looked f)
+pub refused_unary : (ctx : Context) (dest : VarId) (op : IrUnary) (src : IrOp) {n : ℕ} → look_unary ctx dest src ≡ refused n → generate_unary ctx dest op src ≡ refused n
+refused_unary ctx dest op src {n} e = go (flips_sign op dest.ty) refl
+  where
+    go : (b : Bool) → b ≡ flips_sign op dest.ty → generate_unary ctx dest op src ≡ refused n
+    go true f = rw e at (sign_looked ctx dest op src f refl)
+    go false f = rw e at (unary_looked ctx dest op src f refl)

@@ -1,10 +1,10 @@
--- Auxiliary: what the look-ups of `generate_unary` find, and its records, made of that. codegen's `generateUnary` is these two, by `sign-looked` and `unary-looked` (proofs/Looked).
+-- Auxiliary: what the look-ups of `generate_unary` find, and its records, made of that. codegen's `generate_unary` is these two, by `sign_looked` and `unary_looked` (proofs/Looked).
 use Rattle.std.specs.Prelude.{List, [], ◌∷◌, Bool, true, false, cond}
 use Rattle.ir.specs.declared.«Type».{«Type» as IrType}
 use Rattle.ir.specs.declared.VarId.{VarId}
 use Rattle.ir.specs.declared.Operand.{Operand as IrOp}
 use Rattle.ir.specs.declared.UnaryOp.{UnaryOp as IrUnary}
-use Rattle.ir.specs.Types.{Result, ok, refused, ◌>>=◌, is_float}
+use Rattle.ir.specs.Types.{Result, ok, ◌>>=◌, is_float}
 use Rattle.x86.specs.declared.enums.Size.{Size}
 use Rattle.x86.specs.declared.enums.Operand.{Operand}
 use Rattle.x86.specs.declared.enums.BinOp.{BinOp}
@@ -17,11 +17,6 @@ use Rattle.codegen.specs.Instructions.{move}
 use Rattle.codegen.specs.Arithmetic.{sign_bit}
 use Rattle.utils.specs.Sources.{source_of, load_of}
 use Rattle.arithmetic.specs.declared.Changed.{Changed}
-use Rattle.arithmetic.specs.declared.ChangedResult.{ChangedResult}
-
-abbrev pub changed_says : ChangedResult → Result Changed
-changed_says (ChangedResult.Is t) = ok t
-changed_says (ChangedResult.Refused n) = refused n
 
 -- the look-ups, in the Rust's order
 abbrev pub look_unary : Context → VarId → IrOp → Result Changed
@@ -29,7 +24,7 @@ look_unary ctx dest src = do
   size ← var_size dest
   x ← source_of ctx src
   var ← convert_var ctx dest
-  ok (record { src = x; var = var; size = size })
+  ok (record { src = x; dest = record { var = var; size = size } })
 
 -- ---- which records: -x of a float flips its sign bit, and else there is one record between the load and the store
 
@@ -49,9 +44,9 @@ unary_record IrUnary.Not size = Instruction.Binary BinOp.Xor (Operand.Reg RAX) (
 -- ---- the records
 
 abbrev pub changed_of : Instruction → Changed → List Instruction
-changed_of i t = load_of RAX t.src t.size ∷ i ∷ move t.var (Operand.Reg RAX) t.size ∷ []
+changed_of i t = load_of RAX t.src t.dest.size ∷ i ∷ move t.dest.var (Operand.Reg RAX) t.dest.size ∷ []
 
 abbrev pub sign_of : Changed → List Instruction
 sign_of t =
-    load_of RAX t.src t.size ∷ move (Operand.Reg RCX) (Operand.Imm (sign_bit t.size)) t.size
-    ∷ Instruction.Binary BinOp.Xor (Operand.Reg RAX) (Operand.Reg RCX) t.size ∷ move t.var (Operand.Reg RAX) t.size ∷ []
+    load_of RAX t.src t.dest.size ∷ move (Operand.Reg RCX) (Operand.Imm (sign_bit t.dest.size)) t.dest.size
+    ∷ Instruction.Binary BinOp.Xor (Operand.Reg RAX) (Operand.Reg RCX) t.dest.size ∷ move t.dest.var (Operand.Reg RAX) t.dest.size ∷ []

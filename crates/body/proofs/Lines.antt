@@ -12,23 +12,23 @@ use Rattle.ir.specs.Function.{instr_at, arguments_at, behind, operands_at, copy_
 use Rattle.ir.proofs.Sheet.{behind_least}
 use Rattle.x86.specs.declared.enums.Instruction.{Instruction}
 use Rattle.codegen.specs.Generation.{generate_instr}
-use Rattle.utils.specs.Answers.{lent}
+use Rattle.codegen.specs.Context.{Context}
 use Rattle.body.specs.Body.{line_made}
 
 abbrev kinds : List (List ℕ → ℕ → Instr)
 kinds = copy_at ∷ unary_at ∷ binary_at ∷ cast_at ∷ zero_at ∷ call_at ∷ label_at ∷ jump_at ∷ jump_if_not_at ∷ return_at ∷ []
 
-module _ (tables offsets s : List ℕ) (k labels : ℕ) (ret : IrType) where
+module _ (ctx : Context) (s : List ℕ) (k labels : ℕ) (ret : IrType) where
   -- These are the records of kind n.
   abbrev of_kind : ℕ → Result (List Instruction)
-  of_kind n = generate_instr (lent tables offsets) labels ret (get_or kinds n (λ s k. Instr.Comment) s k) (operands_at s (arguments_at s k) (k + 13))
+  of_kind n = generate_instr ctx labels ret (get_or kinds n (λ s k. Instr.Comment) s k) (operands_at s (arguments_at s k) (k + 13))
 
-  pub by_kind : {m n : ℕ} → m ≡ cell_at s k → m ≡ n → line_made tables offsets s k labels ret ≡ of_kind n
+  pub by_kind : {m n : ℕ} → m ≡ cell_at s k → m ≡ n → line_made ctx s k labels ret ≡ of_kind n
   unfolding instr_at
   by_kind e f = ap of_kind (sym e ∙ f)
 
   -- A kind without a maker has no record.
-  pub no_record_lem : {m : ℕ} → m ≡ cell_at s k → Instr.Comment ≡ get_or kinds m (λ s k. Instr.Comment) s k → line_made tables offsets s k labels ret ≡ ok []
+  pub no_record_lem : {m : ℕ} → m ≡ cell_at s k → Instr.Comment ≡ get_or kinds m (λ s k. Instr.Comment) s k → line_made ctx s k labels ret ≡ ok []
   unfolding generate_instr
   no_record_lem e f = by_kind e refl ∙ rw (← f) refl
 

@@ -16,11 +16,13 @@ use Rattle.ir.specs.Types as types
 use Rattle.ir.specs.Types.{Result, ok}
 use Rattle.ir.specs.Function.{Line, type_at, instr_at, copy_at, unary_at, binary_at, cast_at, zero_at, call_at, label_at, jump_at, jump_if_not_at, return_at, arguments_at, line_at, lines_at, behind, body_from}
 use Rattle.ir.proofs.Sheet.{lines_more}
-use Rattle.layout.specs.declared.Checked.{Checked}
+use Rattle.std.specs.Prelude.{Ok, Err}
+use Rattle.cells.specs.declared.refusals.Refusal.{Refusal}
+use Rattle.cells.specs.declared.refusals.Refused.{Refused}
+use Rattle.cells.specs.Refusals.{number_of_refusal}
 use Rattle.layout.specs.declared.Edition.{Edition}
-use Rattle.layout.specs.declared.Limited.{Limited}
 use Rattle.layout.specs.Limits.{most_arguments}
-use Rattle.layout.specs.Layout.{Laid, cursor, instrs_in, instr_check, instrs_check, head_check}
+use Rattle.layout.specs.Layout.{Checked, Limited, Laid, cursor, instrs_in, instr_check, instrs_check, head_check}
 use Rattle.layout.proofs.Passed as passed
 use Rattle.layout.proofs.Laws.{instr_right, instrs_more, head_few, head_starts}
 use Rattle.layout.proofs.Walk.{walk_from}
@@ -31,13 +33,10 @@ use Rattle.codegen.specs.Bounds.{most_records, most_in_body}
 use Rattle.codegen.proofs.Results.{never}
 use Rattle.codegen.proofs.Shapes.{is_return, Part, instr_part, ends_some, ends_same}
 use Rattle.ir.proofs.Sheet.{operands_length}
-use Rattle.utils.specs.declared.CountResult.{CountResult}
-use Rattle.utils.specs.Answers.{lent, counted}
+use Rattle.utils.specs.Answers.{counted}
 use Rattle.utils.specs.Makes.{after, Makes, Fits, Ready, then}
 use Rattle.utils.proofs.Made.{Going, begins, next_ready, next, stops, finishes}
-use Rattle.body.specs.declared.Passed.{Passed}
-use Rattle.body.specs.declared.Surveyed.{Surveyed}
-use Rattle.body.specs.Body.{body_of, without_place, passed_of, survey_of}
+use Rattle.body.specs.Body.{Passed, Surveyed, body_of, without_place, passed_of, survey_of}
 
 -- ---- what a survey says of instructions behind others
 
@@ -124,7 +123,7 @@ counted_refused (ok is) e = absurd (never e)
 counted_refused (types.refused m) e = let z = e in cc
 
 -- The layout of an instruction is right.
-module _ (s : List ℕ) (c : Cursor) {d : Cursor} (e : instr_check s c ≡ Checked.Behind d) where
+module _ (s : List ℕ) (c : Cursor) {d : Cursor} (e : instr_check s c ≡ Ok d) where
   pub right_there : c.at + 1 ≤ cells s
   right_there = omega (arith, (instr_right Edition.First s c e).there)
 
@@ -142,22 +141,22 @@ module _ (s : List ℕ) (c : Cursor) {d : Cursor} (e : instr_check s c ≡ Check
 
 -- The first instruction is checked before the others.
 module _ (s : List ℕ) where
-  instrs_behind : (n : ℕ) (c : Cursor) {d : Cursor} → 0 < n → instr_check s c ≡ Checked.Behind d → instrs_check s n c ≡ instrs_check s (n - 1) d
+  instrs_behind : (n : ℕ) (c : Cursor) {d : Cursor} → 0 < n → instr_check s c ≡ Ok d → instrs_check s n c ≡ instrs_check s (n - 1) d
   unfolding instrs_in
   instrs_behind zero c h e = absurd (omega arith)
   instrs_behind (suc n) c {d} h e = let l : suc n - 1 ≡ n = omega arith in rw (e, l) refl
 
-  instrs_wrong : (n : ℕ) (c : Cursor) {m k : ℕ} → 0 < n → instr_check s c ≡ Checked.Refused m k → instrs_check s n c ≡ Checked.Refused m k
+  instrs_wrong : (n : ℕ) (c : Cursor) {r : Refused} → 0 < n → instr_check s c ≡ Err r → instrs_check s n c ≡ Err r
   unfolding instrs_in
   instrs_wrong zero c h e = absurd (omega arith)
   instrs_wrong (suc n) c h e = rw e refl
 
-  instrs_none : (n : ℕ) (c : Cursor) → n ≤ 0 → instrs_check s n c ≡ Checked.Behind c
+  instrs_none : (n : ℕ) (c : Cursor) → n ≤ 0 → instrs_check s n c ≡ Ok c
   unfolding instrs_in
   instrs_none zero c h = refl
   instrs_none (suc n) c h = absurd (omega arith)
 
-  instrs_right : (n : ℕ) (c : Cursor) {d : Cursor} → 0 < n → instrs_check s n c ≡ Checked.Behind d → instr_check s c ≡ Checked.Behind (cursor (behind s c.at))
+  instrs_right : (n : ℕ) (c : Cursor) {d : Cursor} → 0 < n → instrs_check s n c ≡ Ok d → instr_check s c ≡ Ok (cursor (behind s c.at))
   instrs_right zero c h e = absurd (omega arith)
   instrs_right (suc n) c h e = (instrs_more Edition.First s n c e).0
 
@@ -173,21 +172,21 @@ pub record Walking (ctx : Context) (labels : ℕ) (ret : IrType) (s : List ℕ) 
   pub says : passed_of whole ≡ passed_behind made last (passed_of (generate_body ctx labels ret i (lines_at s left here.at)))
   pub going : Going writes (without_place whole) place old (without_place (generate_body ctx labels ret i (lines_at s left here.at))) made new
 
-pub none_walked : (tables offsets s : List ℕ) {from : Cursor} → head_check s ≡ Limited.Word (cell_at s 5) from → {labels left : ℕ} {ret : IrType} (writes : Bool) (place : ℕ) (old : List ℕ)
+pub none_walked : (ctx : Context) (s : List ℕ) {from : Cursor} → head_check s ≡ Ok (cell_at s 5, from) → {labels left : ℕ} {ret : IrType} (writes : Bool) (place : ℕ) (old : List ℕ)
     → labels ≡ cell_at s 2 → ret ≡ type_at s 3 → left ≡ cell_at s 5
-    → Walking (lent tables offsets) labels ret s (body_of tables offsets s) (instrs_check s (cell_at s 5) from) writes place old left from 1 0 false old
+    → Walking ctx labels ret s (body_of ctx s) (instrs_check s (cell_at s 5) from) writes place old left from 1 0 false old
 unfolding body_of
-none_walked tables offsets s {from} h writes place old a b c =
+none_walked ctx s {from} h writes place old a b c =
     rw (a, b, c) (record {
       few = omega (arith, head_few s h);
       number = omega (arith, head_few s h);
       layout = refl;
-      says = rw (head_starts s h) (behind_none (body_of tables offsets s));
+      says = rw (head_starts s h) (behind_none (body_of ctx s));
       going = begins writes _ _ place old (rw (head_starts s h) refl);
     })
 
 -- The layout of all instructions is right where that of the sheet is.
-pub laid_all : {s : List ℕ} {from : Cursor} → head_check s ≡ Limited.Word (cell_at s 5) from → (r : Laid s) → instrs_check s (cell_at s 5) from ≡ Checked.Behind (walk_from r).end
+pub laid_all : {s : List ℕ} {from : Cursor} → head_check s ≡ Ok (cell_at s 5, from) → (r : Laid s) → instrs_check s (cell_at s 5) from ≡ Ok (walk_from r).end
 laid_all {s} {from} h r = let e : from ≡ cursor (body_from s) = ap cursor (head_starts s h) in rw e (walk_from r).is
 
 module _ {ctx : Context} {labels : ℕ} {ret : IrType} {s : List ℕ} {whole : Outcome (List Instruction)} {all : Checked} {writes : Bool} {place : ℕ} {old : List ℕ} {left : ℕ} {here : Cursor}
@@ -199,10 +198,10 @@ module _ {ctx : Context} {labels : ℕ} {ret : IrType} {s : List ℕ} {whole : O
     abbrev later : Cursor → Outcome (List Instruction)
     later d = generate_body ctx labels ret (i + 1) (lines_at s (left - 1) d.at)
 
-    pub walked_right : {d : Cursor} → all ≡ Checked.Behind d → instr_check s here ≡ Checked.Behind (cursor (behind s here.at))
+    pub walked_right : {d : Cursor} → all ≡ Ok d → instr_check s here ≡ Ok (cursor (behind s here.at))
     walked_right e = instrs_right s left here h (g.layout ∙ e)
 
-    module _ {d : Cursor} (e : instr_check s here ≡ Checked.Behind d) where
+    module _ {d : Cursor} (e : instr_check s here ≡ Ok d) where
       left_is : lines_at s left here.at ≡ (line_at s here.at ∷ lines_at s (left - 1) d.at)
       left_is = rw (instr_right Edition.First s here e).ends (lines_more s left here.at h)
 
@@ -225,7 +224,7 @@ module _ {ctx : Context} {labels : ℕ} {ret : IrType} {s : List ℕ} {whole : O
         pub walked_ready : {p : ℕ} → p ≡ place + 64 * made → Ready writes line p (length new)
         walked_ready f = next_ready g.going room line (without_place (later d)) left_in_turn f
 
-        module _ {n p : ℕ} {newer : List ℕ} (f : p ≡ place + 64 * made) (m : Makes writes line p new newer (CountResult.Records n)) where
+        module _ {n p : ℕ} {newer : List ℕ} (f : p ≡ place + 64 * made) (m : Makes writes line p new newer (Ok n)) where
           abbrev answer : (is : List Instruction) × (line ≡ ok is) × (n ≡ length is)
           answer = counted_ok line m.says
 
@@ -242,7 +241,10 @@ module _ {ctx : Context} {labels : ℕ} {ret : IrType} {s : List ℕ} {whole : O
                 going = next g.going room line (without_place (later d)) left_in_turn f m;
               }
 
-        module _ {n p : ℕ} {newer : List ℕ} (m : Makes writes line p new newer (CountResult.Refused n)) where
+        module _ {x : Refusal} {p : ℕ} {newer : List ℕ} (m : Makes writes line p new newer (Err x)) where
+          abbrev n : ℕ
+          n = number_of_refusal x
+
           pub walked_refused : {r : Surveyed} → r ≡ survey_of (instrs_check s (left - 1) d) (Passed.Refused n i) → r ≡ survey_of all (passed_of whole)
           walked_refused f =
               let q = no_more ctx labels ret i (line_at s here.at) (lines_at s (left - 1) d.at) n (counted_refused line m.says) in
@@ -254,11 +256,11 @@ module _ {ctx : Context} {labels : ℕ} {ret : IrType} {s : List ℕ} {whole : O
           walked_unwritten = (stops g.going room line (without_place (later d)) left_in_turn m).bytes
 
     -- The layout is wrong, which the pass that writes does not meet.
-    module _ {n k : ℕ} (e : instr_check s here ≡ Checked.Refused n k) where
-      pub walked_wrong : Surveyed.Wrong n k ≡ survey_of all (passed_of whole)
+    module _ {x : Refused} (e : instr_check s here ≡ Err x) where
+      pub walked_wrong : Surveyed.Wrong (number_of_refusal x.refusal) x.place ≡ survey_of all (passed_of whole)
       walked_wrong = ap (λ (x : Checked). survey_of x (passed_of whole)) (sym (instrs_wrong s left here h e) ∙ g.layout)
 
-      pub wrong_unwritten : (writes ≡ true → instr_check s here ≡ Checked.Behind (cursor (behind s here.at))) → new ≡ cond writes (after (without_place whole) place old) old
+      pub wrong_unwritten : (writes ≡ true → instr_check s here ≡ Ok (cursor (behind s here.at))) → new ≡ cond writes (after (without_place whole) place old) old
       wrong_unwritten f = go writes refl
         where
           go : (b : Bool) → writes ≡ b → new ≡ cond b (after (without_place whole) place old) old
@@ -283,25 +285,26 @@ module _ {ctx : Context} {labels : ℕ} {ret : IrType} {s : List ℕ} {whole : O
 
 -- ---- what a survey says of its layout and its records
 
-pub survey_laid : (x : Checked) (p : Passed) {q : Passed} {c : Cursor} → Surveyed.Laid q c ≡ survey_of x p → (x ≡ Checked.Behind c) × (q ≡ p)
-survey_laid (Checked.Behind d) p e = (let z = e in cc, let z = e in cc)
-survey_laid (Checked.Refused n k) p e = absurd (let z : ◌≡◌ {A = ℕ} 0 1 = cc in omega arith)
+pub survey_laid : (x : Checked) (p : Passed) {q : Passed} {c : Cursor} → Surveyed.Laid q c ≡ survey_of x p → (x ≡ Ok c) × (q ≡ p)
+survey_laid (Ok d) p e = (let z = e in cc, let z = e in cc)
+survey_laid (Err r) p e = absurd (let z : ◌≡◌ {A = ℕ} 0 1 = cc in omega arith)
 
-pub survey_wrong : (x : Checked) (p : Passed) {n k : ℕ} → Surveyed.Wrong n k ≡ survey_of x p → x ≡ Checked.Refused n k
-survey_wrong (Checked.Behind d) p e = absurd (let z : ◌≡◌ {A = ℕ} 0 1 = cc in omega arith)
-survey_wrong (Checked.Refused m j) p e = let z = e in cc
+pub survey_wrong : (x : Checked) (p : Passed) {n k : ℕ} → Surveyed.Wrong n k ≡ survey_of x p
+    → (r : Refused) × (x ≡ Err r) × (number_of_refusal r.refusal ≡ n) × (r.place ≡ k)
+survey_wrong (Ok d) p e = absurd (let z : ◌≡◌ {A = ℕ} 0 1 = cc in omega arith)
+survey_wrong (Err r) p e = (r, refl, let z = e in sym cc, let z = e in sym cc)
 
 -- ---- the pass that writes: its layout is right, and its list has room
 
-module _ (tables offsets s : List ℕ) (from : Cursor) {r : Surveyed} (e : r ≡ survey_of (instrs_check s (cell_at s 5) from) (passed_of (body_of tables offsets s))) where
+module _ (ctx : Context) (s : List ℕ) (from : Cursor) {r : Surveyed} (e : r ≡ survey_of (instrs_check s (cell_at s 5) from) (passed_of (body_of ctx s))) where
   abbrev whole : Outcome (List Instruction)
-  whole = body_of tables offsets s
+  whole = body_of ctx s
 
   abbrev all : Checked
   all = instrs_check s (cell_at s 5) from
 
   module _ {p : Passed} {c : Cursor} (f : r ≡ Surveyed.Laid p c) where
-    pub survey_made : {n : ℕ} {ret : Bool} {at : ℕ} {old new : List ℕ} → p ≡ Passed.Made n ret → new ≡ after (without_place whole) at old → Makes true (without_place whole) at old new (CountResult.Records n)
+    pub survey_made : {n : ℕ} {ret : Bool} {at : ℕ} {old new : List ℕ} → p ≡ Passed.Made n ret → new ≡ after (without_place whole) at old → Makes true (without_place whole) at old new (Ok n)
     survey_made {n} {ret} h b = record { says = go whole (sym h ∙ (survey_laid all (passed_of whole) (sym f ∙ e)).1); bytes = b }
       where
         go : (o : Outcome (List Instruction)) → Passed.Made n ret ≡ passed_of o → ok n ≡ counted (without_place o)
@@ -315,5 +318,5 @@ module _ (tables offsets s : List ℕ) (from : Cursor) {r : Surveyed} (e : r ≡
         go (accepted is) e y = absurd (let z : ◌≡◌ {A = ℕ} 0 1 = cc in omega arith)
         go (refused k j) e y = absurd y
 
-  pub never_wrong : {A : Type 0} {n k : ℕ} → r ≡ Surveyed.Wrong n k → head_check s ≡ Limited.Word (cell_at s 5) from → Laid s → A
-  never_wrong f h l = passed.never (sym (survey_wrong all (passed_of whole) (sym f ∙ e)) ∙ laid_all h l)
+  pub never_wrong : {A : Type 0} {n k : ℕ} → r ≡ Surveyed.Wrong n k → head_check s ≡ Ok (cell_at s 5, from) → Laid s → A
+  never_wrong f h l = passed.never (sym (survey_wrong all (passed_of whole) (sym f ∙ e)).1 ∙ laid_all h l)

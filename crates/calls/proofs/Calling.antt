@@ -19,7 +19,9 @@ use Rattle.codegen.specs.Context.{Context}
 use Rattle.codegen.specs.Instructions.{floating, excess, load_arguments, push_arguments, call_area, move_stack, store_result, generate_call}
 use Rattle.codegen.proofs.Results.{Yields, yields, refuses, weaken}
 use Rattle.codegen.proofs.Shapes.{loads_few, pushes_few, stack_few, result_part, excess_few}
-use Rattle.utils.specs.declared.CountResult.{CountResult}
+use Rattle.std.specs.Prelude.{Ok, Err}
+use Rattle.std.specs.Prelude as std
+use Rattle.cells.specs.declared.refusals.Refusal.{Refusal}
 use Rattle.utils.specs.Makes.{Makes, Ready, then}
 use Rattle.utils.proofs.Rows.{InRow, first_ready, first_stops, second_ready, second_stops, both_made}
 use Rattle.calls.specs.Calls.{stack_arguments, call_of, call_raised, call_symbol}
@@ -64,8 +66,8 @@ module _ (op : BinOp) (k : ℕ) (h : k ≡ 0 → ⊥) where
   pub moved : ◌≡◌ {A = Result (List Instruction)} (ok (move_stack op k)) (ok (Instruction.Binary op (Operand.Reg RSP) (Operand.Imm (call_area k)) Size.NoSize ∷ []))
   moved = rw (ne_eqb k 0 h)
 
-  pub one_moved : {writes : Bool} {at : ℕ} {old new : List ℕ} {r : CountResult} → Makes writes (ok (move_stack op k)) at old new r
-      → Makes writes (ok (move_stack op k)) at old new (CountResult.Records 1)
+  pub one_moved : {writes : Bool} {at : ℕ} {old new : List ℕ} {r : std.Result ℕ Refusal} → Makes writes (ok (move_stack op k)) at old new r
+      → Makes writes (ok (move_stack op k)) at old new (Ok 1)
   one_moved m = record { says = rw (ne_eqb k 0 h); bytes = m.bytes }
 
 -- ---- no argument is in excess
@@ -128,29 +130,29 @@ module _ (ctx : Context) (dest : Option VarId) (symbol : ℕ) (args : List IrOp)
   pub stack_ready : Ready writes (stack_arguments ctx args) at (length old)
   stack_ready = first_ready old parts room
 
-  pub stack_stops : {m : ℕ} {new : List ℕ} → Makes writes (stack_arguments ctx args) at old new (CountResult.Refused m)
-      → Makes writes (generate_call ctx dest symbol args) at old new (CountResult.Refused m)
+  pub stack_stops : {m : Refusal} {new : List ℕ} → Makes writes (stack_arguments ctx args) at old new (Err m)
+      → Makes writes (generate_call ctx dest symbol args) at old new (Err m)
   stack_stops made = first_stops parts room made
 
-  module _ {x : ℕ} {mid : List ℕ} (p : Makes writes (stack_arguments ctx args) at old mid (CountResult.Records x)) where
+  module _ {x : ℕ} {mid : List ℕ} (p : Makes writes (stack_arguments ctx args) at old mid (Ok x)) where
     rest_ready : Ready writes (then (load_arguments ctx 0 0 args) (call_symbol ctx dest symbol k)) (at + 64 * x) (length mid)
     rest_ready = second_ready parts room p refl
 
     pub loads_ready : Ready writes (load_arguments ctx 0 0 args) (at + 64 * x) (length mid)
     loads_ready = first_ready mid last_parts rest_ready
 
-    pub loads_stop : {m : ℕ} {new : List ℕ} → Makes writes (load_arguments ctx 0 0 args) (at + 64 * x) mid new (CountResult.Refused m)
-        → Makes writes (generate_call ctx dest symbol args) at old new (CountResult.Refused m)
+    pub loads_stop : {m : Refusal} {new : List ℕ} → Makes writes (load_arguments ctx 0 0 args) (at + 64 * x) mid new (Err m)
+        → Makes writes (generate_call ctx dest symbol args) at old new (Err m)
     loads_stop made = second_stops parts room p (first_stops last_parts rest_ready made)
 
-    module _ {y : ℕ} {late : List ℕ} (l : Makes writes (load_arguments ctx 0 0 args) (at + 64 * x) mid late (CountResult.Records y)) where
+    module _ {y : ℕ} {late : List ℕ} (l : Makes writes (load_arguments ctx 0 0 args) (at + 64 * x) mid late (Ok y)) where
       pub call_ready : Ready writes (call_symbol ctx dest symbol k) (at + 64 * x + 64 * y) (length late)
       call_ready = second_ready last_parts rest_ready l refl
 
-      pub call_stops : {m : ℕ} {new : List ℕ} → Makes writes (call_symbol ctx dest symbol k) (at + 64 * x + 64 * y) late new (CountResult.Refused m)
-          → Makes writes (generate_call ctx dest symbol args) at old new (CountResult.Refused m)
+      pub call_stops : {m : Refusal} {new : List ℕ} → Makes writes (call_symbol ctx dest symbol k) (at + 64 * x + 64 * y) late new (Err m)
+          → Makes writes (generate_call ctx dest symbol args) at old new (Err m)
       call_stops made = second_stops parts room p (second_stops last_parts rest_ready l made)
 
-      pub all_made : {m : ℕ} {new : List ℕ} → Makes writes (call_symbol ctx dest symbol k) (at + 64 * x + 64 * y) late new (CountResult.Records m)
-          → Makes writes (generate_call ctx dest symbol args) at old new (CountResult.Records (x + (y + m)))
-      all_made made = both_made parts room p refl (both_made last_parts rest_ready l refl made)
+      pub all_made : {m : ℕ} {new : List ℕ} → Makes writes (call_symbol ctx dest symbol k) (at + 64 * x + 64 * y) late new (Ok m)
+          → Makes writes (generate_call ctx dest symbol args) at old new (Ok (x + y + m))
+      all_made {m} made = let z : x + (y + m) ≡ x + y + m = omega arith in rw z at (both_made parts room p refl (both_made last_parts rest_ready l refl made))

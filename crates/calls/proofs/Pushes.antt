@@ -16,51 +16,44 @@ use Rattle.codegen.specs.Context.{Context}
 use Rattle.codegen.specs.Utils.{load_operand}
 use Rattle.codegen.specs.Instructions.{floating, excess, push_arguments}
 use Rattle.codegen.proofs.Results.{Yields, yields, refuses}
-use Rattle.utils.specs.declared.CountResult.{CountResult}
+use Rattle.std.specs.Prelude.{Ok}
 use Rattle.codegen.specs.declared.registers.Taken.{Taken}
 use Rattle.utils.specs.Makes.{alone, Makes, then}
 use Rattle.codegen.specs.Excess.{taken, behind_one, beyond}
 use Rattle.utils.proofs.Rows.{InRow, one_made}
 use Rattle.codegen.proofs.Taken.{stack_more, few_fit, count_turn}
-use Rattle.utils.proofs.Beyond.{Row}
+use Rattle.utils.proofs.Beyond.{Items, all_left, next_left, none_left, Row}
 use Rattle.calls.specs.Calls.{push_of, push_one}
 
-pub next_left : (s : List ℕ) (left cell : ℕ) → 0 < left → operands_at s left cell ≡ operand_at s cell ∷ operands_at s (left - 1) (cell + 4)
+pub operands_placed : (s : List ℕ) → Items (operand_at s) (operands_at s) 4
 unfolding operands_at
-next_left s left cell h = let e : left ≡ suc (left - 1) = omega arith in ap (λ (m : ℕ). operands_at s m cell) e
-
-pub none_left : (s : List ℕ) (cell : ℕ) → operands_at s 0 cell ≡ []
-unfolding operands_at
-none_left s cell = refl
+operands_placed s = record { none = λ cell. refl; more = λ left cell. refl }
 
 -- ---- how many are in excess
 
--- of n arguments, `left` from a cell on are to come
-pub record Counting (s : List ℕ) (n from left cell : ℕ) (t : Taken) : Type 0 where
-  pub few : t.stack + left ≤ n
-  pub ends : cell + 4 * left ≡ from + 4 * n
-  pub so_many : t.stack + length (beyond floating t (operands_at s left cell)) ≡ length (excess floating 0 0 (operands_at s n from))
+-- i of n arguments are counted
+pub record Counting (s : List ℕ) (n from i : ℕ) (t : Taken) : Type 0 where
+  pub few : t.stack ≤ i
+  pub so_many : t.stack + length (beyond floating t (operands_at s (n - i) (from + 4 * i))) ≡ length (excess floating 0 0 (operands_at s n from))
 
 pub few_counted : (s : List ℕ) (n from : ℕ) → n ≤ 6 → 0 ≡ length (excess floating 0 0 (operands_at s n from))
 few_counted s n from h = sym (ap length (few_fit floating (operands_at s n from) (omega (arith, operands_length s n from))))
 
-pub none_counted : (s : List ℕ) (n from : ℕ) → Counting s n from n from (taken 0 0 0)
-none_counted s n from = record { few = omega arith; ends = refl; so_many = omega arith }
+pub none_counted : (s : List ℕ) (n from : ℕ) → Counting s n from 0 (taken 0 0 0)
+none_counted s n from = record { few = omega arith; so_many = rw (all_left (operands_placed s) n from) (omega arith) }
 
-module _ {s : List ℕ} {n from left cell : ℕ} {t : Taken} (g : Counting s n from left cell t) where
-  pub one_counted : 0 < left → {x : IrOp} {u : Taken} → x ≡ operand_at s cell → u ≡ behind_one (floating x) t → Counting s n from (left - 1) (cell + 4) u
+module _ {s : List ℕ} {n from i : ℕ} {t : Taken} (g : Counting s n from i t) where
+  pub one_counted : i < n → {x : IrOp} {u : Taken} → x ≡ operand_at s (from + 4 * i) → u ≡ behind_one (floating x) t → Counting s n from (i + 1) u
   one_counted h {x} {u} e f =
       rw f (record {
         few = omega (arith, g.few, stack_more (floating x) t);
-        ends = omega (arith, g.ends);
-        so_many = sym (count_turn floating t x (operands_at s (left - 1) (cell + 4))) ∙ rw (e, ← next_left s left cell h) g.so_many;
+        so_many = sym (count_turn floating t x (operands_at s (n - (i + 1)) (from + 4 * (i + 1)))) ∙ rw (e, ← next_left (operands_placed s) n from h) g.so_many;
       })
 
-  pub all_counted : left ≤ 0 → t.stack ≡ length (excess floating 0 0 (operands_at s n from))
-  unfolding operands_at excess
+  pub all_counted : n ≤ i → t.stack ≡ length (excess floating 0 0 (operands_at s n from))
+  unfolding excess
   all_counted h =
-      let e : left ≡ 0 = omega arith in
-      let z : t.stack + length (beyond floating t (operands_at s 0 cell)) ≡ length (excess floating 0 0 (operands_at s n from)) = rw e at g.so_many in
+      let z : t.stack + length (beyond floating t []) ≡ length (excess floating 0 0 (operands_at s n from)) = rw (none_left (operands_placed s) n from h) at g.so_many in
       omega (arith, z)
 
 -- ---- the records of each
@@ -88,10 +81,10 @@ module _ (ctx : Context) where
   no_more j = refl
 
   pub pushing : (s : List ℕ) → Row floating (push_one ctx) (push_arguments ctx) (operand_at s) (operands_at s) 4
-  pushing s = record { none = no_more; more = one_more_lem; two = two_records; no_item = none_left s; next_item = next_left s }
+  pushing s = record { none = no_more; more = one_more_lem; two = two_records; placed = operands_placed s }
 
-  pub one_load_lem : (x : IrOp) {writes : Bool} {at m : ℕ} {old new : List ℕ} → Makes writes (alone (load_operand ctx RAX x Size.NoSize)) at old new (CountResult.Records m)
-      → Makes writes (alone (load_operand ctx RAX x Size.NoSize)) at old new (CountResult.Records 1)
+  pub one_load_lem : (x : IrOp) {writes : Bool} {at m : ℕ} {old new : List ℕ} → Makes writes (alone (load_operand ctx RAX x Size.NoSize)) at old new (Ok m)
+      → Makes writes (alone (load_operand ctx RAX x Size.NoSize)) at old new (Ok 1)
   one_load_lem x made = one_made (load_operand ctx RAX x Size.NoSize) made
 
   -- a load, and then its store

@@ -1,9 +1,10 @@
--- Auxiliary: the parts of a call, one behind the other. `generateCall` is `stackArguments`, `loadArguments` and `callSymbol`, by `in_parts` (proofs/Calling);
--- `pushArguments` is `pushOne` of each argument in excess, by `pushing` (proofs/Pushes), and `loadArguments` is `loadArgument` of each, by `turn` (proofs/Loads).
-use Rattle.std.specs.Prelude.{ℕ, ◌*◌, Bool, true, false, cond, List, [], ◌∷◌, length}
-use Rattle.std.specs.Prelude.{Option, Some, None}
+-- Auxiliary: the parts of a call, one behind the other. `generate_call` is `stack_arguments`, `load_arguments` and `call_symbol`, by `in_parts`
+-- (proofs/Calling), and `push_arguments` is `push_one` of each argument in excess, by `pushing` (proofs/Pushes).
+use Rattle.std.specs.Prelude.{ℕ, ◌*◌, Bool, cond, List, [], ◌∷◌, length, Option}
+use Rattle.ir.specs.declared.VarId.{VarId}
 use Rattle.ir.specs.declared.Operand.{Operand as IrOp}
 use Rattle.ir.specs.Types.{Result, ok}
+use Rattle.ir.specs.Function.{operands_at}
 use Rattle.x86.specs.declared.enums.Size.{Size}
 use Rattle.x86.specs.declared.enums.BinOp.{BinOp}
 use Rattle.x86.specs.declared.enums.CtrlOp.{CtrlOp}
@@ -12,29 +13,22 @@ use Rattle.x86.specs.declared.enums.Instruction.{Instruction}
 use Rattle.x86.specs.Registers.{xmm, RAX, rsp_plus}
 use Rattle.codegen.specs.Context.{Context}
 use Rattle.codegen.specs.Utils.{load_operand}
-use Rattle.codegen.specs.Instructions.{move, floating, excess, register_of, push_arguments, move_stack, store_result}
-use Rattle.codegen.specs.declared.registers.Taken.{Taken}
+use Rattle.codegen.specs.Instructions.{move, floating, excess, push_arguments, move_stack, store_result}
 use Rattle.utils.specs.declared.slots.Slot.{Slot}
 use Rattle.utils.specs.Makes.{alone, then}
-use Rattle.codegen.specs.Excess.{is_beyond}
-use Rattle.ir.specs.declared.VarId.{VarId}
+use Rattle.calls.specs.declared.arguments.Arguments.{Arguments}
 
--- whether an argument is a float constant
-abbrev pub is_float_constant : IrOp → Bool
-is_float_constant (IrOp.Var v) = false
-is_float_constant (IrOp.Int n short unsigned) = false
-is_float_constant (IrOp.Float k) = true
-is_float_constant (IrOp.Bool b) = false
-is_float_constant (IrOp.Address v) = false
-is_float_constant (IrOp.DataAddress k) = false
-is_float_constant IrOp.Null = false
+-- the arguments that the code holds
+abbrev pub args_of : Arguments → List IrOp
+args_of a = operands_at a.sheet.now a.count a.from
 
 -- ---- the stack
 
--- an argument in excess, of number j: its load, and the store of RAX at RSP plus 8j
+-- the store of RAX at RSP plus 8j
 abbrev pub push_of : ℕ → Instruction
 push_of j = move (rsp_plus (8 * j)) (Operand.Reg RAX) Size.U64
 
+-- an argument in excess, of number j: its load, and that store
 unfoldable pub push_one : Context → ℕ → IrOp → Result (List Instruction)
 push_one ctx j x = then (alone (load_operand ctx RAX x Size.NoSize)) (ok (push_of j ∷ []))
 
@@ -44,16 +38,13 @@ stack_arguments ctx args = then (ok (move_stack BinOp.Sub (length (excess floati
 
 -- ---- the registers
 
--- an argument into the register that it finds; no record for one in excess
-abbrev pub load_argument : Context → Taken → Bool → IrOp → Result (List Instruction)
-load_argument ctx t float x = cond (is_beyond float t) (ok []) (alone (load_operand ctx (register_of float t.words t.floats) x Size.NoSize))
-
 -- the number of floats, in RAX
 abbrev pub count_of : ℕ → Instruction
 count_of n = move (Operand.Reg RAX) (Operand.Imm n) Size.NoSize
 
 -- ---- the call
 
+-- the call itself
 abbrev pub call_of : ℕ → Instruction
 call_of symbol = Instruction.Ctrl CtrlOp.Call (Operand.Sym symbol)
 

@@ -7,7 +7,9 @@ use lib.Dec.{ltb, lit≤}
 use lib.ListN.{length}
 use native.Mathlib.Omega.{arith}
 use Rattle.cells.specs.Refusals.{page_full}
-use Rattle.layout.specs.declared.Checked.{Checked}
+use Rattle.std.specs.Prelude.{Ok, Err}
+use Rattle.cells.specs.Refusals.{number_of_refusal}
+use Rattle.layout.specs.Layout.{Checked}
 use Rattle.layout.specs.declared.Edition.{Edition}
 use Rattle.layout.specs.Layout.{tables_check, sheet_check}
 use Rattle.layout.proofs.Refused.{Off, off_by, tables_off, sheet_off}
@@ -93,8 +95,9 @@ pub record Answers {A : Type 0} (r : Outcome A) : Type 0 where
   pub of : (n p : ℕ) → r ≡ generation.refused n p → Known n
 
 after : {A : Type 0} {P : ℕ → Type 0} (c : Checked) (rest : Unit {0} → Outcome A) → Off P c → ((n : ℕ) → P n → (1 ≤ n) × (n ≤ 3)) → Answers (rest tt) → Answers (checked c rest)
-after (Checked.Behind c) rest h l k = k
-after (Checked.Refused n cell) rest h l k =
+after (Ok c) rest h l k = k
+after (Err r) rest h l k =
+    let n : ℕ = number_of_refusal r.refusal in
     record { of = λ m p e. let (a, b) = l n (off_by h refl) in subst Known (let z = e in cc) (omega arith, omega arith, λ (z : n ≡ 8). omega arith) }
 
 compiled_answers : (tables sheet : List ℕ) → Answers (compiled tables sheet)

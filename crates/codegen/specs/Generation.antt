@@ -1,11 +1,12 @@
 -- Believed: Krc's codegen/generation.rs: the list that `generate` holds for one function before `add_function`, or the first panic with its place.
 use Rattle.std.specs.Prelude.{ℕ, suc, ◌*◌, List, [], ◌∷◌, ◌++◌, Bool, true, false, cond, length, drop, ltb}
 pub use Rattle.cells.specs.Outcomes.{Outcome, accepted, refused, ◌>>=◌}
-use Rattle.cells.specs.Refusals.{page_full}
+use Rattle.cells.specs.Refusals.{page_full, number_of_refusal}
 use Rattle.ir.specs.declared.«Type».{«Type» as IrType}
 use Rattle.ir.specs.declared.Instr.{Instr}
 use Rattle.ir.specs.declared.Operand.{Operand as IrOp}
-use Rattle.layout.specs.declared.Checked.{Checked}
+use Rattle.std.specs.Prelude.{Ok, Err}
+use Rattle.layout.specs.Layout.{Checked}
 use Rattle.ir.specs.Types as types
 use Rattle.ir.specs.Types.{Result, ok}
 use Rattle.ir.specs.Function.{Tables, Function, Line, tables_of, function_of}
@@ -96,8 +97,8 @@ generate tables F = do
 
 -- what follows a layout that is right
 abbrev pub checked : {A : Type 0} → Checked → (Unit {0} → Outcome A) → Outcome A
-checked (Checked.Behind c) rest = rest tt
-checked (Checked.Refused n cell) rest = refused n cell
+checked (Ok c) rest = rest tt
+checked (Err r) rest = refused (number_of_refusal r.refusal) r.place
 
 -- refusals 1 to 7; 8, registers spent, no longer occurs (M-112)
 unfoldable pub compiled : List ℕ → List ℕ → Outcome (List Instruction)

@@ -1,12 +1,10 @@
--- Auxiliary: how two operands are compared, what the look-ups find, and the records that are made of it. codegen's `comparison` is the first by `by_kind`, and its
--- `compared` the other two by `compared-looked` (proofs/Looks).
-use Rattle.std.specs.Prelude.{ℕ, Bool, true, false, cond, List, [], ◌∷◌, ◌++◌, eqb}
+-- Auxiliary: how two operands are compared, what the look-ups find, and the records that are made of it. codegen's `comparison` is these, by
+-- `looked` (proofs/Looks).
+use Rattle.std.specs.Prelude.{Bool, true, false, cond, List, [], ◌∷◌, ◌++◌, eqb, Option, Some, None}
 use Rattle.ir.specs.declared.VarId.{VarId}
 use Rattle.ir.specs.declared.Operand.{Operand as IrOp}
-use Rattle.ir.specs.Function.{operand_at}
-use Rattle.ir.specs.Types.{Result, ok, refused, ◌>>=◌}
+use Rattle.ir.specs.Types.{Result, ok, ◌>>=◌}
 use Rattle.x86.specs.declared.register.Register.{Register}
-use Rattle.x86.specs.declared.enums.Size.{Size}
 use Rattle.x86.specs.declared.enums.Operand.{Operand}
 use Rattle.x86.specs.declared.enums.BinOp.{BinOp}
 use Rattle.x86.specs.declared.enums.ConditionCode.{ConditionCode}
@@ -14,61 +12,54 @@ use Rattle.x86.specs.declared.enums.Instruction.{Instruction}
 use Rattle.x86.specs.Registers.{xmm, RAX, RCX}
 use Rattle.x86.specs.Records.{condition_code}
 use Rattle.codegen.specs.Context.{Context}
-use Rattle.codegen.specs.Utils.{var_size, convert_var}
-use Rattle.codegen.specs.Instructions.{move}
-use Rattle.codegen.specs.Arithmetic.{unsigned_code, is_swapped, float_code, parity, compared}
+use Rattle.codegen.specs.Utils.{size_from}
+use Rattle.codegen.specs.Instructions.{move, operand_kind}
+use Rattle.codegen.specs.Arithmetic.{unsigned_code, is_swapped, float_code, parity}
+use Rattle.utils.specs.Slots.{look_slot}
 use Rattle.utils.specs.Sources.{source_of, load_of}
-use Rattle.comparisons.specs.declared.Sides.{Sides}
-use Rattle.comparisons.specs.declared.SidesResult.{SidesResult}
-use Rattle.comparisons.specs.declared.More.{More}
+use Rattle.comparisons.specs.declared.Parity.{Parity}
 use Rattle.comparisons.specs.declared.Choice.{Choice}
+use Rattle.comparisons.specs.declared.Compared.{Compared}
 
-abbrev pub sides_say : SidesResult → Result Sides
-sides_say (SidesResult.Are t) = ok t
-sides_say (SidesResult.Refused n) = refused n
+-- the parity flag, where it is asked, as records
+abbrev pub parity_of : Option Parity → List Instruction
+parity_of None = []
+parity_of (Some p) = parity p.second p.join
 
--- what else a comparison asks, as records
-abbrev pub more_of : More → List Instruction
-more_of More.Nothing = []
-more_of (More.Parity cc op) = parity cc op
+-- equality of floats asks the parity flag too: codegen's `ordered`, by `parity_for_lem` (proofs/Looks)
+abbrev pub parity_for : ConditionCode → Option Parity
+parity_for cc =
+    cond (eqb (condition_code cc) 0) (Some (record { second = ConditionCode.NP; join = BinOp.And }))
+    (cond (eqb (condition_code cc) 1) (Some (record { second = ConditionCode.P; join = BinOp.Or })) None)
 
--- equality of floats asks the parity flag too: codegen's `ordered`, by `more-for` (proofs/Looks)
-abbrev pub more_for : ConditionCode → More
-more_for cc =
-    cond (eqb (condition_code cc) 0) (More.Parity ConditionCode.NP BinOp.And)
-    (cond (eqb (condition_code cc) 1) (More.Parity ConditionCode.P BinOp.Or) More.Nothing)
+-- ---- how two operands are compared
 
--- ---- how the operands at two cells are compared
-
-abbrev pub choice : Register → ℕ → Register → ℕ → BinOp → ConditionCode → More → Choice
-choice a left b right op cc more = record { a = a; left = left; b = b; right = right; op = op; cc = cc; more = more }
+abbrev pub choice : Register → IrOp → Register → IrOp → BinOp → ConditionCode → Option Parity → Choice
+choice a left b right op cc more =
+    record { left = left; left_register = a; right = right; right_register = b; op = op; cc = cc; parity = more }
 
 -- two floats, in XMM0 and XMM1
-abbrev pub float_choice : ℕ → ℕ → ConditionCode → More → Choice
+abbrev pub float_choice : IrOp → IrOp → ConditionCode → Option Parity → Choice
 float_choice left right cc more = choice (xmm 0) left (xmm 1) right BinOp.UcomiF cc more
 
 -- by left's kind, a float or not, unsigned or not
-unfoldable pub chosen : ℕ → ℕ → Bool → Bool → ConditionCode → Choice
-chosen left right true unsigned cc =
-    cond (is_swapped cc) (float_choice right left (float_code cc) More.Nothing) (float_choice left right (float_code cc) (more_for cc))
-chosen left right false unsigned cc = choice RAX left RCX right BinOp.Cmp (cond unsigned (unsigned_code cc) cc) More.Nothing
+unfoldable pub chosen : IrOp → IrOp → Bool → Bool → ConditionCode → Choice
+chosen left right true unsigned cc = cond (is_swapped cc) (float_choice right left (float_code cc) None) (float_choice left right (float_code cc) (parity_for cc))
+chosen left right false unsigned cc = choice RAX left RCX right BinOp.Cmp (cond unsigned (unsigned_code cc) cc) None
 
--- codegen's `compared` as it was chosen
-abbrev pub compared_by : Context → List ℕ → VarId → Size → Choice → Result (List Instruction)
-compared_by ctx s dest size t =
-    compared ctx dest t.a (operand_at s t.left) t.b (operand_at s t.right) size t.op t.cc (more_of t.more)
+-- ---- look-ups, in the Rust's order, and records
 
--- ---- look-ups and records
+abbrev pub look_compared : Context → VarId → IrOp → IrOp → ConditionCode → Result Compared
+look_compared ctx dest left right cc = do
+  k ← operand_kind ctx left
+  size ← size_from k.size
+  x ← source_of ctx (chosen left right k.float k.unsigned cc).left
+  y ← source_of ctx (chosen left right k.float k.unsigned cc).right
+  slot ← look_slot ctx dest
+  ok (record { choice = chosen left right k.float k.unsigned cc; size = size; sides = record { left = x; right = y; dest = slot } })
 
-abbrev pub look_compared : Context → VarId → IrOp → IrOp → Result Sides
-look_compared ctx dest left right = do
-  x ← source_of ctx left
-  y ← source_of ctx right
-  var ← convert_var ctx dest
-  stored ← var_size dest
-  ok (record { left = x; right = y; var = var; stored = stored })
-
-abbrev pub compared_of : Size → Choice → Sides → List Instruction
-compared_of size t sides =
-    load_of t.a sides.left size ∷ load_of t.b sides.right size ∷ Instruction.Binary t.op (Operand.Reg t.a) (Operand.Reg t.b) size
-    ∷ Instruction.SetCC t.cc (Operand.Reg RAX) ∷ more_of t.more ++ move sides.var (Operand.Reg RAX) sides.stored ∷ []
+abbrev pub compared_of : Compared → List Instruction
+compared_of t =
+    load_of t.choice.left_register t.sides.left t.size ∷ load_of t.choice.right_register t.sides.right t.size
+    ∷ Instruction.Binary t.choice.op (Operand.Reg t.choice.left_register) (Operand.Reg t.choice.right_register) t.size ∷ Instruction.SetCC t.choice.cc (Operand.Reg RAX)
+    ∷ parity_of t.choice.parity ++ move t.sides.dest.var (Operand.Reg RAX) t.sides.dest.size ∷ []

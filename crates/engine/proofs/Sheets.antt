@@ -9,7 +9,8 @@ use lib.Dec.{ltb}
 use lib.ListN.{length, take, drop}
 use Rattle.cells.specs.Refusals.{no_entry, bad_pack}
 use Rattle.cells.specs.Outcomes.{number_of, place_of}
-use Rattle.layout.specs.declared.Checked.{Checked}
+use Rattle.std.specs.Prelude.{Ok, Err}
+use Rattle.layout.specs.Layout.{Checked}
 use Rattle.x86.specs.declared.enums.Instruction.{Instruction}
 use Rattle.codegen.specs.Generation.{Outcome, accepted, refused, checked, lowered, records_after}
 use Rattle.machine.specs.Plain.{Plain}
@@ -54,9 +55,9 @@ module _ (p : List ℕ) (k : ℕ) where
   part_found {refusal} r l = go (look_up p k) refl r
     where
       is_sheet : (x : Checked) (b : Bool) {s : List ℕ} → checked x (λ u. cond b (accepted (sheet_at p k)) (refused no_entry 0)) ≡ accepted s → accepted s ≡ accepted (sheet_at p k)
-      is_sheet (Checked.Behind d) true e = sym e
-      is_sheet (Checked.Behind d) false e = let z : ◌≡◌ {A = ℕ} 0 1 = cc in absurd (omega arith)
-      is_sheet (Checked.Refused n j) b e = let z : ◌≡◌ {A = ℕ} 0 1 = cc in absurd (omega arith)
+      is_sheet (Ok d) true e = sym e
+      is_sheet (Ok d) false e = let z : ◌≡◌ {A = ℕ} 0 1 = cc in absurd (omega arith)
+      is_sheet (Err r) b e = let z : ◌≡◌ {A = ℕ} 0 1 = cc in absurd (omega arith)
 
       go : (o : Outcome (List ℕ)) → look_up p k ≡ o → refusal ≡ number_of o → look_up p k ≡ accepted (sheet_at p k)
       go (accepted s) e f = e ∙ is_sheet (pack_check p) (ltb k (sheet_count p)) (sym (looked_up p k) ∙ e)

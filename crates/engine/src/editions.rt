@@ -6,7 +6,7 @@ ghost use Rattle.edition.specs.RoundTrip.{Kept};
 ghost use Rattle.edition.specs.Meaning.{Means};
 ghost use Rattle.engine.specs.Numbers.{IsConversion};
 
-use edition::{Answer, convert};
+use edition::convert;
 use layout::Edition;
 
 // It writes a sheet of edition `e` in the other one, and answers in numbers.
@@ -20,13 +20,13 @@ fn to_other(e: Edition, sheet: &[u8], out: &mut [u8], place: &mut u64) -> u64
     ensures means { result ≡ 0 → Means e sheet.now out.new place.new }
 {
     match convert(e, sheet, out) {
-        Answer::Accepted(count) => {
+        Ok(count) => {
             *place = count;
             0
         }
-        Answer::Refused(number, cell) => {
-            *place = cell;
-            number
+        Err(refused) => {
+            *place = refused.place;
+            u64::from(refused.refusal)
         }
     }
 }

@@ -7,7 +7,7 @@ ghost use Rattle.machine.specs.Simulation.{Demand3};
 ghost use Rattle.cells.specs.Outcomes.{number_of, place_of};
 ghost use Rattle.engine.specs.Numbers.{IsNumber};
 
-use generation::{Answer, generate};
+use generation::generate;
 
 // It lowers the sheet. It gives 0, with the number of records in `place`, or the number of a refusal, with its place.
 pub fn gilthoren_lower(tables: &[u8], sheet: &[u8], records: &mut [u8], place: &mut u64) -> u64
@@ -20,13 +20,13 @@ pub fn gilthoren_lower(tables: &[u8], sheet: &[u8], records: &mut [u8], place: &
     ensures demand3 { result ≡ 0 → Plain tables.now sheet.now → Demand3 tables.now sheet.now records.new place.new }
 {
     match generate(tables, sheet, records) {
-        Answer::Accepted(count) => {
+        Ok(count) => {
             *place = count;
             0
         }
-        Answer::Refused(number, cell) => {
-            *place = cell;
-            number
+        Err(refused) => {
+            *place = refused.place;
+            u64::from(refused.refusal)
         }
     }
 }

@@ -4,7 +4,7 @@ ghost use Rattle.cells.specs.Outcomes.{accepted, number_of, place_of};
 ghost use Rattle.pack.specs.Pack.{find_pair, look_up, start_of, size_of};
 ghost use Rattle.engine.specs.Numbers.{IsLookUpNumber};
 
-use pack::{Found, find};
+use pack::find;
 
 // It gives 0, with the first byte of the sheet of this number, from 0, in `from` and its bytes in `length`; or the number of a refusal, with its place, and 0
 // in both.
@@ -24,17 +24,17 @@ pub fn gilthoren_pack_sheet(
     ensures lent { pack.exit.now ≡ pack.entry.now }
 {
     match find(pack, number) {
-        Found::Sheet(pair) => {
+        Ok(pair) => {
             *place = 0;
             *from = pair.offset * 8;
             *length = pair.length * 8;
             0
         }
-        Found::Refused(refusal, cell) => {
-            *place = cell;
+        Err(refused) => {
+            *place = refused.place;
             *from = 0;
             *length = 0;
-            refusal
+            u64::from(refused.refusal)
         }
     }
 }

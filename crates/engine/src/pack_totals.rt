@@ -4,7 +4,7 @@ ghost use Rattle.cells.specs.Outcomes.{number_of, place_of};
 ghost use Rattle.totals.specs.Totals.{pack_totals, records_of, refused_of};
 ghost use Rattle.engine.specs.Numbers.{IsTotalsNumber};
 
-use totals::{Totalled, pack_totals};
+use totals::pack_totals;
 
 // It gives 0, with the number of records of the sheets that lower in `records`, and the number of sheets that are refused in `refused`; or the number of a
 // refusal of the pack, with its place, and 0 in both.
@@ -23,17 +23,17 @@ pub fn gilthoren_pack_totals(
     ensures lent { (tables.exit.now ≡ tables.entry.now) × (pack.exit.now ≡ pack.entry.now) }
 {
     match pack_totals(tables, pack) {
-        Totalled::Are(t) => {
+        Ok(totals) => {
             *place = 0;
-            *records = t.records;
-            *refused = t.refused;
+            *records = totals.records;
+            *refused = totals.refused;
             0
         }
-        Totalled::Refused(number, cell) => {
-            *place = cell;
+        Err(bad) => {
+            *place = bad.place;
             *records = 0;
             *refused = 0;
-            number
+            u64::from(bad.refusal)
         }
     }
 }

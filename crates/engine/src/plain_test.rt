@@ -4,7 +4,6 @@ ghost use Rattle.machine.specs.Plain.{Plain, first_fault};
 ghost use Rattle.engine.specs.Numbers.{yes_of, fault_of};
 
 use generation::plain_test::plainness;
-use plain::Plainness;
 
 // The plain test gives 1 for yes, with 0 in `place`; or 0 for no, with the first number at fault.
 pub fn gilthoren_plain(tables: &[u8], sheet: &[u8], place: &mut u64) -> u64
@@ -14,11 +13,11 @@ pub fn gilthoren_plain(tables: &[u8], sheet: &[u8], place: &mut u64) -> u64
     ensures plain { result ≡ 1 ↔ Plain tables.now sheet.now }
 {
     match plainness(tables, sheet) {
-        Plainness::Yes => {
+        None => {
             *place = 0;
             1
         }
-        Plainness::No(number) => {
+        Some(number) => {
             *place = number;
             0
         }

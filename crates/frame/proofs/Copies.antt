@@ -21,7 +21,7 @@ use Rattle.utils.proofs.Sources.{rung}
 use Rattle.codegen.proofs.Taken.{few_fit}
 use Rattle.utils.proofs.Beyond.{Row}
 use Rattle.frame.specs.Stores.{look_copied, copied_of, copy_one}
-use Rattle.frame.proofs.Stores.{next_left}
+use Rattle.frame.proofs.Stores.{vars_placed}
 
 -- ---- one parameter
 
@@ -54,12 +54,8 @@ module _ (ctx : Context) where
   unfolding copy_one
   two_records j p = bind (any (var_size p)) (λ size a. bind (any (convert_var ctx p)) (λ var b. yields refl))
 
-  none_left : (s : List ℕ) (cell : ℕ) → vars_at s 0 cell ≡ []
-  unfolding vars_at
-  none_left s cell = refl
-
   pub copying : (s : List ℕ) → Row is_float_param (copy_one ctx) (copy_params ctx) (var_at s) (vars_at s) 3
-  copying s = record { none = no_more; more = one_more_lem; two = two_records; no_item = none_left s; next_item = next_left s }
+  copying s = record { none = no_more; more = one_more_lem; two = two_records; placed = vars_placed s }
 
   -- six come in registers
   pub none_copied : (s : List ℕ) (n from : ℕ) → n ≤ 6 → copy_params ctx 0 (excess is_float_param 0 0 (vars_at s n from)) ≡ ok []

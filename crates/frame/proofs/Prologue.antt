@@ -15,7 +15,9 @@ use Rattle.codegen.specs.Instructions.{excess}
 use Rattle.codegen.specs.Frame.{store_params, copy_params, is_float_param, func_prologue}
 use Rattle.codegen.proofs.Results.{Yields, weaken}
 use Rattle.codegen.proofs.Shapes.{stores_few, copies_few, excess_few}
-use Rattle.utils.specs.declared.CountResult.{CountResult}
+use Rattle.std.specs.Prelude.{Ok, Err}
+use Rattle.std.specs.Prelude as std
+use Rattle.cells.specs.declared.refusals.Refusal.{Refusal}
 use Rattle.utils.specs.Makes.{Makes, Ready, then}
 use Rattle.utils.proofs.Made.{Going, begins, next_ready, next, stops, finishes}
 use Rattle.utils.proofs.Rows.{then_none, always}
@@ -64,17 +66,17 @@ module _ (ctx : Context) (bytes : ℕ) (ps : List VarId) (old : List ℕ) {write
   pub enter_ready : Ready writes (ok (entering bytes)) 0 (length old)
   enter_ready = next_ready start room (ok (entering bytes)) (then words (then floats copies)) refl refl
 
-  module _ {r : CountResult} {t : List ℕ} (e : Makes writes (ok (entering bytes)) 0 old t r) where
+  module _ {r : std.Result ℕ Refusal} {t : List ℕ} (e : Makes writes (ok (entering bytes)) 0 old t r) where
     entered : Going writes whole 0 old (then words (then floats copies)) 3 t
     entered = next start room (ok (entering bytes)) (then words (then floats copies)) refl refl (always e)
 
     pub words_ready : Ready writes words 192 (length t)
     words_ready = next_ready entered room words (then floats copies) refl refl
 
-    pub words_stop : {m : ℕ} {new : List ℕ} → Makes writes words 192 t new (CountResult.Refused m) → Makes writes whole 0 old new (CountResult.Refused m)
+    pub words_stop : {m : Refusal} {new : List ℕ} → Makes writes words 192 t new (Err m) → Makes writes whole 0 old new (Err m)
     words_stop made = stops entered room words (then floats copies) refl made
 
-    module _ {x : ℕ} {u : List ℕ} (w : Makes writes words 192 t u (CountResult.Records x)) where
+    module _ {x : ℕ} {u : List ℕ} (w : Makes writes words 192 t u (Ok x)) where
       worded : Going writes whole 0 old (then floats copies) (3 + x) u
       worded = next entered room words (then floats copies) refl refl w
 
@@ -84,10 +86,10 @@ module _ (ctx : Context) (bytes : ℕ) (ps : List VarId) (old : List ℕ) {write
       pub floats_ready : Ready writes floats (192 + 64 * x) (length u)
       floats_ready = next_ready worded room floats copies refl here
 
-      pub floats_stop : {m : ℕ} {new : List ℕ} → Makes writes floats (192 + 64 * x) u new (CountResult.Refused m) → Makes writes whole 0 old new (CountResult.Refused m)
+      pub floats_stop : {m : Refusal} {new : List ℕ} → Makes writes floats (192 + 64 * x) u new (Err m) → Makes writes whole 0 old new (Err m)
       floats_stop made = stops worded room floats copies refl made
 
-      module _ {y : ℕ} {v : List ℕ} (f : Makes writes floats (192 + 64 * x) u v (CountResult.Records y)) where
+      module _ {y : ℕ} {v : List ℕ} (f : Makes writes floats (192 + 64 * x) u v (Ok y)) where
         floated : Going writes whole 0 old copies (3 + x + y) v
         floated = next worded room floats copies refl here f
 
@@ -97,8 +99,8 @@ module _ (ctx : Context) (bytes : ℕ) (ps : List VarId) (old : List ℕ) {write
         pub copies_ready : Ready writes copies (192 + 64 * x + 64 * y) (length v)
         copies_ready = next_ready floated room copies (ok []) (then_none copies) there
 
-        pub copies_stop : {m : ℕ} {new : List ℕ} → Makes writes copies (192 + 64 * x + 64 * y) v new (CountResult.Refused m) → Makes writes whole 0 old new (CountResult.Refused m)
+        pub copies_stop : {m : Refusal} {new : List ℕ} → Makes writes copies (192 + 64 * x + 64 * y) v new (Err m) → Makes writes whole 0 old new (Err m)
         copies_stop made = stops floated room copies (ok []) (then_none copies) made
 
-        pub all_made : {m : ℕ} {new : List ℕ} → Makes writes copies (192 + 64 * x + 64 * y) v new (CountResult.Records m) → Makes writes whole 0 old new (CountResult.Records (3 + x + y + m))
+        pub all_made : {m : ℕ} {new : List ℕ} → Makes writes copies (192 + 64 * x + 64 * y) v new (Ok m) → Makes writes whole 0 old new (Ok (3 + x + y + m))
         all_made made = finishes (next floated room copies (ok []) (then_none copies) there made) room refl

@@ -1,6 +1,6 @@
 -- The loop over the parameters: the stores so far, and those that are left.
 use Prim.Native.Nat.{ℕ, suc, ◌+◌, ◌*◌, ◌-◌, ◌≤◌, ◌<◌}
-use mathlib.Core.Path.{◌≡◌, refl, sym, ap, subst, ◌∙◌}
+use mathlib.Core.Path.{◌≡◌, refl, sym, ap, ◌∙◌}
 use mathlib.Core.Bool.{Bool, true, false, cond, not, beq}
 use mathlib.Core.List.{List, [], ◌∷◌}
 use native.Mathlib.Omega.{arith}
@@ -18,12 +18,15 @@ use Rattle.codegen.specs.Context.{Context}
 use Rattle.codegen.specs.Utils.{var_size, convert_var}
 use Rattle.codegen.specs.Frame.{registers_of, store_of, store_params}
 use Rattle.codegen.proofs.Results.{Yields, yields, any, bind, weaken, choose, never}
-use Rattle.utils.specs.declared.CountResult.{CountResult}
+use Rattle.std.specs.Prelude.{Ok, Err}
+use Rattle.std.proofs.lemmas.Bool.{not-true, not-false}
+use Rattle.cells.specs.declared.refusals.Refusal.{Refusal}
 use Rattle.utils.specs.Answers.{counted}
 use Rattle.utils.specs.Makes.{listed, Makes, Ready, before, then}
 use Rattle.utils.specs.Slots.{look_slot}
 use Rattle.utils.proofs.Looked.{slot_looked}
-use Rattle.utils.proofs.Made.{Going, begins, next_ready, next, stops, finishes}
+use Rattle.utils.proofs.Made.{Going, before_none, begins, next_ready, next, stops, finishes}
+use Rattle.utils.proofs.Beyond.{Items, all_left, next_left, none_left}
 use Rattle.frame.specs.Stores.{param_of, store_one, store_param}
 
 -- ---- one parameter
@@ -34,26 +37,18 @@ unfolding store_one
 one_looked ctx float k p = slot_looked ctx p (λ t. param_of (store_of float) (get_or (registers_of float) k RAX) t ∷ [])
 
 -- by the tests of the code
-is_not : (b : Bool) → not b ≡ true → b ≡ false
-is_not true t = sym t
-is_not false t = refl
-
-is_so : (b : Bool) → not b ≡ false → b ≡ true
-is_so true t = refl
-is_so false t = sym t
-
 module _ (ctx : Context) (float : Bool) (k : ℕ) (p : VarId) {f : Bool} (e : f ≡ is_float p.ty) where
   pub other_kind : not (beq f float) ≡ true → store_param ctx float k p ≡ ok []
   unfolding store_param
-  other_kind t = rw (← e, is_not (beq f float) t)
+  other_kind t = rw (← e, not-true (beq f float) t)
 
   pub no_register_left : {m : ℕ} → not (beq f float) ≡ false → m ≡ length (registers_of float) → m ≤ k → store_param ctx float k p ≡ ok []
   unfolding store_param
-  no_register_left t q h = rw (← e, is_so (beq f float) t, le-ltb k (length (registers_of float)) (omega arith))
+  no_register_left t q h = rw (← e, not-false (beq f float) t, le-ltb k (length (registers_of float)) (omega arith))
 
   pub has_register : {m : ℕ} → not (beq f float) ≡ false → m ≡ length (registers_of float) → k < m → store_param ctx float k p ≡ store_one ctx float k p
   unfolding store_param
-  has_register t q h = rw (← e, is_so (beq f float) t, lt-ltb k (length (registers_of float)) (omega arith))
+  has_register t q h = rw (← e, not-false (beq f float) t, lt-ltb k (length (registers_of float)) (omega arith))
 
 -- ---- the parameters one after the other
 
@@ -87,10 +82,6 @@ in_turn : (i : Instruction) (r : Result (List Instruction)) → (r >>= λ is. ok
 in_turn i (ok is) = refl
 in_turn i (refused n) = refl
 
-before_none : (r : Result (List Instruction)) → r ≡ before [] r
-before_none (ok is) = refl
-before_none (refused n) = refl
-
 -- how many records a list has
 abbrev pub size_of : Result (List Instruction) → ℕ
 size_of (ok is) = length is
@@ -109,7 +100,7 @@ turn ctx float k p ps = go (beq (is_float p.ty) float) (ltb k (length (registers
     record_of_lem var size = Instruction.Binary (store_of float) var (Operand.Reg (get_or (registers_of float) k RAX)) size
 
     no_store : store_params ctx float k ps ≡ before [] (store_params ctx float (k + 0) ps)
-    no_store = let z : k ≡ k + 0 = omega arith in before_none (store_params ctx float k ps) ∙ ap (λ (j : ℕ). before [] (store_params ctx float j ps)) z
+    no_store = let z : k ≡ k + 0 = omega arith in sym (before_none (store_params ctx float k ps)) ∙ ap (λ (j : ℕ). before [] (store_params ctx float j ps)) z
 
     one : (a : Result Operand) (b : Result Size) →
         (a >>= λ v. b >>= λ z. store_params ctx float (suc k) ps >>= λ is. ok (record_of_lem v z ∷ is)) ≡ behind (a >>= λ v. b >>= λ z. ok (record_of_lem v z ∷ []))
@@ -132,52 +123,50 @@ registers_few false = lit≤ tt
 
 -- ---- the loop
 
--- `left` parameters from a cell on are to come; k have been stored
-pub record Storing (writes : Bool) (ctx : Context) (float : Bool) (s : List ℕ) (n from at : ℕ) (old : List ℕ) (left cell k : ℕ) (new : List ℕ) : Type 0 where
-  pub few : left ≤ n
-  pub ends : cell + 3 * left ≡ from + 3 * n
-  pub free : k ≤ length (registers_of float)
-  pub going : Going writes (store_params ctx float 0 (vars_at s n from)) at old (store_params ctx float k (vars_at s left cell)) k new
-
-pub none_stored : (writes : Bool) (ctx : Context) (float : Bool) (s : List ℕ) (n from at : ℕ) (old : List ℕ) → Storing writes ctx float s n from at old n from 0 old
-none_stored writes ctx float s n from at old = record { few = omega arith; ends = refl; free = omega arith; going = begins writes _ _ at old refl }
-
-pub next_left : (s : List ℕ) (left cell : ℕ) → 0 < left → vars_at s left cell ≡ var_at s cell ∷ vars_at s (left - 1) (cell + 3)
+pub vars_placed : (s : List ℕ) → Items (var_at s) (vars_at s) 3
 unfolding vars_at
-next_left s left cell h = let e : left ≡ suc (left - 1) = omega arith in ap (λ (m : ℕ). vars_at s m cell) e
+vars_placed s = record { none = λ cell. refl; more = λ left cell. refl }
 
-counts_so : (r : Result (List Instruction)) {writes : Bool} {at m : ℕ} {old new : List ℕ} → Makes writes r at old new (CountResult.Records m) → size_of r ≡ m
+-- i of the parameters are done, and k of them stored
+pub record Storing (writes : Bool) (ctx : Context) (float : Bool) (s : List ℕ) (n from at : ℕ) (old : List ℕ) (i k : ℕ) (new : List ℕ) : Type 0 where
+  pub free : k ≤ length (registers_of float)
+  pub going : Going writes (store_params ctx float 0 (vars_at s n from)) at old (store_params ctx float k (vars_at s (n - i) (from + 3 * i))) k new
+
+pub none_stored : (writes : Bool) (ctx : Context) (float : Bool) (s : List ℕ) (n from at : ℕ) (old : List ℕ) → Storing writes ctx float s n from at old 0 0 old
+none_stored writes ctx float s n from at old =
+    record { free = omega arith; going = begins writes _ _ at old (ap (store_params ctx float 0) (all_left (vars_placed s) n from)) }
+
+counts_so : (r : Result (List Instruction)) {writes : Bool} {at m : ℕ} {old new : List ℕ} → Makes writes r at old new (Ok m) → size_of r ≡ m
 counts_so (ok is) made = let z = made.says in cc
 counts_so (refused n) made = absurd (never (sym made.says))
 
-module _ {writes : Bool} {ctx : Context} {float : Bool} {s : List ℕ} {n from at : ℕ} {old : List ℕ} {left cell k : ℕ} {new : List ℕ}
-    (g : Storing writes ctx float s n from at old left cell k new) (room : Ready writes (store_params ctx float 0 (vars_at s n from)) at (length old)) where
+module _ {writes : Bool} {ctx : Context} {float : Bool} {s : List ℕ} {n from at : ℕ} {old : List ℕ} {i k : ℕ} {new : List ℕ}
+    (g : Storing writes ctx float s n from at old i k new) (room : Ready writes (store_params ctx float 0 (vars_at s n from)) at (length old)) where
   -- a turn: the store of the next parameter, p, and those behind it
-  module _ (h : 0 < left) {p : VarId} (e : p ≡ var_at s cell) where
+  module _ (h : i < n) {p : VarId} (e : p ≡ var_at s (from + 3 * i)) where
     abbrev store : Result (List Instruction)
     store = store_param ctx float k p
 
-    abbrev behind_it : Result (List Instruction)
-    behind_it = store_params ctx float (k + size_of store) (vars_at s (left - 1) (cell + 3))
+    abbrev others : List VarId
+    others = vars_at s (n - (i + 1)) (from + 3 * (i + 1))
 
-    left_is : store_params ctx float k (vars_at s left cell) ≡ then store behind_it
+    abbrev behind_it : Result (List Instruction)
+    behind_it = store_params ctx float (k + size_of store) others
+
+    left_is : store_params ctx float k (vars_at s (n - i) (from + 3 * i)) ≡ then store behind_it
     left_is =
-        ap (store_params ctx float k) (next_left s left cell h) ∙ ap (λ (q : VarId). store_params ctx float k (q ∷ vars_at s (left - 1) (cell + 3))) (sym e)
-        ∙ turn ctx float k p (vars_at s (left - 1) (cell + 3))
+        let here : vars_at s (n - i) (from + 3 * i) ≡ p ∷ others = rw e (next_left (vars_placed s) n from h) in
+        ap (store_params ctx float k) here ∙ turn ctx float k p others
 
     pub store_ready : Ready writes store (at + 64 * k) (length new)
     store_ready = next_ready g.going room store behind_it left_is refl
 
-    pub stored_more : {m : ℕ} {newer : List ℕ} → Makes writes store (at + 64 * k) new newer (CountResult.Records m)
-        → Storing writes ctx float s n from at old (left - 1) (cell + 3) (k + m) newer
+    pub stored_more : {m : ℕ} {newer : List ℕ} → Makes writes store (at + 64 * k) new newer (Ok m) → Storing writes ctx float s n from at old (i + 1) (k + m) newer
     stored_more {m} {newer} made =
+        let e : size_of store ≡ m = counts_so store made in
         record {
-          few = omega (arith, g.few);
-          ends = omega (arith, g.ends);
           free = yields_count store (turn_few ctx float k p g.free) made.says;
-          going =
-              subst (λ (q : ℕ). Going writes (store_params ctx float 0 (vars_at s n from)) at old (store_params ctx float (k + q) (vars_at s (left - 1) (cell + 3))) (k + m) newer)
-              (counts_so store made) (next g.going room store behind_it left_is refl made);
+          going = rw e at (next g.going room store behind_it left_is refl made);
         }
       where
         yields_count : (q : Result (List Instruction)) → Yields q (λ is. k + length is ≤ length (registers_of float)) → ok m ≡ counted q
@@ -185,10 +174,10 @@ module _ {writes : Bool} {ctx : Context} {float : Bool} {s : List ℕ} {n from a
         yields_count (ok is) y z = let l : m ≡ length is = let w = z in cc in let y = y.of is refl in omega arith
         yields_count (refused j) y z = absurd (never (sym z))
 
-    pub store_refused : {m : ℕ} {newer : List ℕ} → Makes writes store (at + 64 * k) new newer (CountResult.Refused m)
-        → Makes writes (store_params ctx float 0 (vars_at s n from)) at old newer (CountResult.Refused m)
+    pub store_refused : {m : Refusal} {newer : List ℕ} → Makes writes store (at + 64 * k) new newer (Err m)
+        → Makes writes (store_params ctx float 0 (vars_at s n from)) at old newer (Err m)
     store_refused made = stops g.going room store behind_it left_is made
 
-  pub all_stored : left ≤ 0 → Makes writes (store_params ctx float 0 (vars_at s n from)) at old new (CountResult.Records k)
-  unfolding store_params vars_at
-  all_stored h = let e : left ≡ 0 = omega arith in finishes g.going room (ap (λ (m : ℕ). store_params ctx float k (vars_at s m cell)) e)
+  pub all_stored : n ≤ i → Makes writes (store_params ctx float 0 (vars_at s n from)) at old new (Ok k)
+  unfolding store_params
+  all_stored h = finishes g.going room (ap (store_params ctx float k) (none_left (vars_placed s) n from h))

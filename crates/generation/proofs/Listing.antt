@@ -27,15 +27,18 @@ use Rattle.codegen.specs.Generation.{Outcome, accepted, refused, ◌>>=◌, at, 
 use Rattle.codegen.proofs.Results.{Yields, yields, any, bind, choose, never}
 use Rattle.codegen.proofs.Shapes.{ends_last, ends_same, prologue_few}
 use Rattle.utils.specs.Answers.{lent, counted}
-use Rattle.utils.specs.declared.CountResult.{CountResult}
+use Rattle.std.specs.Prelude.{Ok, Err}
+use Rattle.std.specs.Prelude as std
+use Rattle.cells.specs.declared.refusals.Refusal.{Refusal}
+use Rattle.cells.specs.declared.refusals.Refused.{Refused}
+use Rattle.cells.specs.Refusals.{number_of_refusal}
+use Rattle.cells.specs.Outcomes.{outcome}
 use Rattle.utils.specs.Makes.{Makes, Fits, Ready, then}
 use Rattle.utils.proofs.Made.{Going, begins, next_ready, next, finishes}
-use Rattle.body.specs.declared.Passed.{Passed}
-use Rattle.generation.specs.declared.pass.Counted.{Counted}
 use Rattle.generation.specs.Answers.{counted_outcome}
-use Rattle.body.specs.Body.{body_of, without_place, passed_of}
+use Rattle.body.specs.Body.{Passed, Surveyed, body_of, without_place, passed_of}
 use Rattle.generation.specs.Pass.{list_of, ending}
-use Rattle.generation.specs.Survey.{counted_list, framed}
+use Rattle.generation.specs.Survey.{Counted, counted_list, framed}
 
 -- ---- the prologue is short, and does not end in Ret
 
@@ -103,7 +106,7 @@ abbrev pub joined : Result (List Instruction) → Outcome (List Instruction) →
 joined p b = at 0 p >>= λ xs. b >>= λ ys. accepted (with_epilogue (xs ++ ys))
 
 pub list_is : (tables offsets : List ℕ) (bytes : ℕ) (s : List ℕ) {n m : ℕ} → n ≡ cell_at s 0 → m ≡ cell_at s 1 →
-    joined (func_prologue (lent tables offsets) bytes (vars_at s m (6 + 2 * n))) (body_of tables offsets s) ≡ list_of tables offsets bytes s
+    joined (func_prologue (lent tables offsets) bytes (vars_at s m (6 + 2 * n))) (body_of (lent tables offsets) s) ≡ list_of (lent tables offsets) bytes s
 unfolding list_of
 list_is tables offsets bytes s e f = rw (e, f) refl
 
@@ -159,28 +162,28 @@ room_made {r} {at} {m} {n} {A} y e = go r (y.room refl) e
 -- These are the parts of the list of a sheet that has n variables and m parameters.
 module _ (tables offsets : List ℕ) (bytes : ℕ) (s : List ℕ) (n m : ℕ) where
   abbrev whole : Result (List Instruction)
-  whole = without_place (list_of tables offsets bytes s)
+  whole = without_place (list_of (lent tables offsets) bytes s)
 
   abbrev first : Result (List Instruction)
   first = func_prologue (lent tables offsets) bytes (vars_at s m (6 + 2 * n))
 
   abbrev body : Result (List Instruction)
-  body = without_place (body_of tables offsets s)
+  body = without_place (body_of (lent tables offsets) s)
 
   abbrev last : List Instruction
   last = ending (ret_of body)
 
   module _ (f : n ≡ cell_at s 0) (g : m ≡ cell_at s 1) (old : List ℕ) (room : Ready true whole 0 (length old)) where
     start : Going true whole 0 old (then first (then body (ok last))) 0 old
-    start = begins true whole (then first (then body (ok last))) 0 old (sym (in_turn first (body_of tables offsets s) (prologue_open _ _ _)) ∙ ap without_place (list_is tables offsets bytes s f g))
+    start = begins true whole (then first (then body (ok last))) 0 old (sym (in_turn first (body_of (lent tables offsets) s) (prologue_open _ _ _)) ∙ ap without_place (list_is tables offsets bytes s f g))
 
     pub first_ready : Ready true first 0 (length old)
     first_ready = next_ready start room first (then body (ok last)) refl refl
 
-    pub first_never : {A : Type 0} {k : ℕ} {mid : List ℕ} → Makes true first 0 old mid (CountResult.Refused k) → A
+    pub first_never : {A : Type 0} {k : Refusal} {mid : List ℕ} → Makes true first 0 old mid (Err k) → A
     first_never r = room_made first_ready r.says
 
-    module _ {x : ℕ} {mid : List ℕ} (made : Makes true first 0 old mid (CountResult.Records x)) where
+    module _ {x : ℕ} {mid : List ℕ} (made : Makes true first 0 old mid (Ok x)) where
       pub first_short : m ≤ 256 → x ≤ most_in_prologue 256
       first_short few = first_few _ _ _ _ _ few made.says
 
@@ -190,7 +193,7 @@ module _ (tables offsets : List ℕ) (bytes : ℕ) (s : List ℕ) (n m : ℕ) wh
       pub body_ready : Ready true body (64 * x) (length mid)
       body_ready = next_ready behind_first room body (ok last) refl (omega arith)
 
-      module _ {y : ℕ} {late : List ℕ} (wrote : Makes true body (64 * x) mid late (CountResult.Records y)) where
+      module _ {y : ℕ} {late : List ℕ} (wrote : Makes true body (64 * x) mid late (Ok y)) where
         behind_body : Going true whole 0 old (ok last) (x + y) late
         behind_body = next behind_first room body (ok last) refl (omega arith) wrote
 
@@ -205,7 +208,7 @@ module _ (tables offsets : List ℕ) (bytes : ℕ) (s : List ℕ) (n m : ℕ) wh
           made_few = omega (arith, left_is)
 
           -- None is left.
-          pub all_written : needed ≤ x + y → Makes true whole 0 old late (CountResult.Records needed)
+          pub all_written : needed ≤ x + y → Makes true whole 0 old late (Ok needed)
           all_written h =
               let l : needed ≡ x + y = omega (arith, made_few) in
               rw l (finishes behind_body room (go (ret_of body) (omega (arith, left_is))))
@@ -226,7 +229,7 @@ module _ (tables offsets : List ℕ) (bytes : ℕ) (s : List ℕ) (n m : ℕ) wh
             pub last_ready : Ready true (ok func_epilogue) (64 * (x + y)) (length late)
             last_ready = next_ready behind_body room (ok func_epilogue) (ok []) (ap ok last_due) (omega arith)
 
-            pub last_written : {new : List ℕ} → new ≡ write late (64 * (x + y)) (list_bytes func_epilogue) → Makes true whole 0 old new (CountResult.Records needed)
+            pub last_written : {new : List ℕ} → new ≡ write late (64 * (x + y)) (list_bytes func_epilogue) → Makes true whole 0 old new (Ok needed)
             last_written f =
                 let l : needed ≡ x + y + 3 = omega (arith, left_is, ap length last_due) in
                 rw l (finishes (next behind_body room (ok func_epilogue) (ok []) (ap ok last_due) (omega arith) (record { says = refl; bytes = f })) room refl)

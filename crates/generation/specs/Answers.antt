@@ -2,12 +2,7 @@
 -- (docs/FORMAT.md, "Refusals").
 use Rattle.std.specs.Prelude.{ℕ, List, length}
 use Rattle.x86.specs.declared.enums.Instruction.{Instruction}
-use Rattle.cells.specs.Outcomes.{Outcome, accepted, refused, amount}
-use Rattle.generation.specs.declared.Answer.{Answer}
-
-abbrev pub answer_says : Answer → Outcome ℕ
-answer_says (Answer.Accepted n) = accepted n
-answer_says (Answer.Refused n place) = refused n place
+use Rattle.cells.specs.Outcomes.{Outcome, amount}
 
 -- This is the number of records of a list.
 abbrev pub counted_outcome : Outcome (List Instruction) → Outcome ℕ

@@ -3,15 +3,15 @@ ghost use Rattle.std.specs.Prelude.{◌≡◌};
 ghost use Rattle.machine.specs.Plain.{first_fault};
 ghost use Rattle.plain.specs.Answers.{plain_says};
 
-use crate::{Answer, count};
-use plain::{Plainness, plain_accepted, plain_refused};
+use crate::count;
+use plain::{plain_accepted, plain_refused};
 
-// It says yes where every condition holds, or no with the first number at fault.
-pub fn plainness(tables: &[u8], sheet: &[u8]) -> Plainness
+// It gives the first number at fault, where there is one: not every condition holds then.
+pub fn plainness(tables: &[u8], sheet: &[u8]) -> Option<u64>
     ensures { plain_says result ≡ first_fault tables.now sheet.now }
 {
     match count(tables, sheet) {
-        Answer::Accepted(_) => plain_accepted(sheet),
-        Answer::Refused(number, place) => plain_refused(sheet, number, place),
+        Ok(_) => plain_accepted(sheet),
+        Err(refused) => plain_refused(sheet, refused),
     }
 }

@@ -1,59 +1,52 @@
 -- Each instruction's list, as codegen defines it, is made of what its look-ups find.
-use Prim.Native.Nat.{ℕ, ◌+◌}
-use mathlib.Core.Path.{◌≡◌, refl, ap}
-use mathlib.Core.List.{List, [], ◌∷◌}
-use native.Mathlib.Omega.{arith}
+use Prim.Native.Nat.{ℕ}
+use mathlib.Core.Path.{◌≡◌, refl}
+use mathlib.Core.List.{[], ◌∷◌}
 use Rattle.ir.specs.declared.«Type».{«Type» as IrType}
 use Rattle.ir.specs.declared.VarId.{VarId}
 use Rattle.ir.specs.declared.Operand.{Operand as IrOp}
-use Rattle.ir.specs.Types.{ok, refused, type_size}
-use Rattle.ir.specs.Function.{type_at, var_at}
+use Rattle.ir.specs.Types.{Result, ok, refused, ◌>>=◌}
 use Rattle.x86.specs.declared.enums.Size.{Size}
 use Rattle.x86.specs.declared.enums.Operand.{Operand}
 use Rattle.x86.specs.Registers.{RAX}
 use Rattle.codegen.specs.Context.{Context, label_at}
-use Rattle.codegen.specs.Utils.{convert_var, own_size}
-use Rattle.codegen.specs.Instructions.{move, func_epilogue, generate_return, generate_copy, generate_zero, generate_jmp_if_not, generate_label, generate_jump}
-use Rattle.utils.specs.declared.slots.Slot.{Slot}
-use Rattle.utils.specs.Slots.{look_slot}
-use Rattle.utils.specs.Sources.{source_of, load_of}
-use Rattle.utils.specs.Makes.{listed}
-use Rattle.utils.proofs.Sources.{rung, rung_load, last, last_load, sourced, sized, var_given}
-use Rattle.utils.proofs.Looked.{slot_var, slot_size, slot_refused}
-use Rattle.instructions.specs.Looks.{return_register, return_of, moved_of, look_zero, zero_of, label_of, jump_of, look_branch, branch_of}
+use Rattle.codegen.specs.Utils.{convert_var, var_size, own_size, load_operand}
+use Rattle.codegen.specs.Instructions.{move, func_epilogue, generate_return, generate_copy, generate_jmp_if_not}
+use Rattle.codegen.proofs.Results.{Yields}
+use Rattle.utils.specs.Slots.{look_slot, moved_of}
+use Rattle.utils.specs.Sources.{source_of, own_size_of, load_of}
+use Rattle.utils.proofs.Sources.{own_found, sourced, sized, var_given, Given}
+use Rattle.instructions.specs.Looks.{return_register, return_of, branch_of}
 
-pub return_looked : (ctx : Context) (ret : IrType) (op : IrOp) → generate_return ctx ret op ≡ listed (source_of ctx op) (return_of ctx ret op)
+-- what follows a value that is made of another follows that other
+made_of : {A B C : Type 0} (r : Result A) (g : A → B) (f : B → Result C) → ((r >>= λ a. ok (g a)) >>= f) ≡ (r >>= λ a. f (g a))
+made_of (ok a) g f = refl
+made_of (refused n) g f = refl
+
+pub return_looked : (ctx : Context) (ret : IrType) (op : IrOp)
+    → generate_return ctx ret op ≡ (source_of ctx op >>= λ src. ok (return_of (return_register ret) src (own_size_of ctx op)))
 unfolding generate_return
-return_looked ctx ret op = rw (sourced ctx (return_register ret) op Size.NoSize) (last_load (source_of ctx op) (λ src. load_of (return_register ret) src (own_size ctx op)) (λ load. load ∷ func_epilogue))
+return_looked ctx ret op = rw (sourced ctx (return_register ret) op Size.NoSize) (go (source_of ctx op) refl)
+  where
+    go : (r : Result Operand) → source_of ctx op ≡ r
+        → ((r >>= λ src. ok (load_of (return_register ret) src (own_size ctx op))) >>= λ load. ok (load ∷ func_epilogue))
+        ≡ (r >>= λ src. ok (return_of (return_register ret) src (own_size_of ctx op)))
+    go (ok src) e = rw (own_found ctx op e)
+    go (refused n) e = refl
 
--- once dest's slot is known
-pub copy_looked : (ctx : Context) (dest : VarId) (src : IrOp) {t : Slot} → look_slot ctx dest ≡ ok t
-    → generate_copy ctx dest src ≡ listed (source_of ctx src) (λ x. moved_of x t.size t)
+pub copy_looked : (ctx : Context) (dest : VarId) (src : IrOp)
+    → generate_copy ctx dest src ≡ (look_slot ctx dest >>= λ t. source_of ctx src >>= λ x. ok (moved_of x t.size t))
 unfolding generate_copy
-copy_looked ctx dest src {t} e =
-    rw (slot_var ctx dest e, slot_size ctx dest e, sized ctx RAX src t.size ((var_given dest).of t.size (slot_size ctx dest e)))
-    (last_load (source_of ctx src) (λ x. load_of RAX x t.size) (λ load. load ∷ move t.var (Operand.Reg RAX) t.size ∷ []))
+copy_looked ctx dest src = go (convert_var ctx dest) (var_size dest) (var_given dest)
+  where
+    go : (v : Result Operand) (z : Result Size) → Yields z Given
+        → (v >>= λ var. z >>= λ size. load_operand ctx RAX src size >>= λ load. ok (load ∷ move var (Operand.Reg RAX) size ∷ []))
+        ≡ ((v >>= λ var. z >>= λ size. ok (record { var = var; size = size })) >>= λ t. source_of ctx src >>= λ x. ok (moved_of x t.size t))
+    go (ok var) (ok size) y = rw (sized ctx RAX src size (y.of size refl)) (made_of (source_of ctx src) _ _)
+    go (ok var) (refused n) y = refl
+    go (refused n) z y = refl
 
-pub no_slot : (ctx : Context) (dest : VarId) (src : IrOp) {n : ℕ} → look_slot ctx dest ≡ refused n → generate_copy ctx dest src ≡ refused n
-unfolding generate_copy
-no_slot ctx dest src e = slot_refused ctx dest _ e
-
-pub zero_looked : (ctx : Context) (dest : VarId) → generate_zero ctx dest ≡ listed (look_zero ctx dest) zero_of
-unfolding generate_zero
-zero_looked ctx dest = rung (type_size dest.ty) _ _ _ (λ n. rung (convert_var ctx dest) _ _ _ (λ v. refl))
-
-pub label_looked : (labels id : ℕ) → generate_label labels id ≡ listed (label_at labels id) label_of
-unfolding generate_label
-label_looked labels id = last (label_at labels id) label_of
-
-pub jump_looked : (labels id : ℕ) → generate_jump labels id ≡ listed (label_at labels id) jump_of
-unfolding generate_jump
-jump_looked labels id = last (label_at labels id) jump_of
-
-pub branch_looked : (ctx : Context) (labels : ℕ) (condition : IrOp) (target : ℕ) → generate_jmp_if_not ctx labels condition target ≡ listed (look_branch ctx labels condition target) branch_of
+pub branch_looked : (ctx : Context) (labels : ℕ) (condition : IrOp) (target : ℕ)
+    → generate_jmp_if_not ctx labels condition target ≡ (source_of ctx condition >>= λ src. label_at labels target >>= λ label. ok (branch_of src label))
 unfolding generate_jmp_if_not
-branch_looked ctx labels condition target = rung_load ctx RAX condition Size.U8 _ _ _ (λ z. refl) (λ x. rung (label_at labels target) _ _ _ (λ l. refl))
-
--- dest's type, read at its own cell
-pub dest_type : (s : List ℕ) (k : ℕ) → type_at s (k + 3) ≡ (var_at s (k + 2)).ty
-dest_type s k = ap (type_at s) (let e : k + 3 ≡ k + 2 + 1 = omega arith in e)
+branch_looked ctx labels condition target = rw (sized ctx RAX condition Size.U8 (λ z. refl)) (made_of (source_of ctx condition) _ _)

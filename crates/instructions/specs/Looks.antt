@@ -1,9 +1,7 @@
--- Auxiliary: what an instruction's look-ups find, in the Rust's order, and the records that are made of it. Codegen's definitions are the two together, by `return-looked`, `copy-looked`, `zero-looked`, `label-looked`, `jump-looked` and `branch-looked` (proofs/Looked).
+-- Auxiliary: the records that an instruction's look-ups make. Codegen's definitions are the look-ups, in the Rust's order, and these: by `return_looked`, `copy_looked` and `branch_looked` (proofs/Looked) where they load, and else as they stand.
 use Rattle.std.specs.Prelude.{ℕ, List, [], ◌∷◌, cond}
 use Rattle.ir.specs.declared.«Type».{«Type» as IrType}
-use Rattle.ir.specs.declared.VarId.{VarId}
-use Rattle.ir.specs.declared.Operand.{Operand as IrOp}
-use Rattle.ir.specs.Types.{Result, ok, refused, ◌>>=◌, type_size, is_float}
+use Rattle.ir.specs.Types.{Result, ok, ◌>>=◌, is_float}
 use Rattle.x86.specs.declared.register.Register.{Register}
 use Rattle.x86.specs.declared.enums.Size.{Size}
 use Rattle.x86.specs.declared.enums.Operand.{Operand}
@@ -14,66 +12,36 @@ use Rattle.x86.specs.declared.enums.StringOp.{StringOp}
 use Rattle.x86.specs.declared.enums.Prefix.{Prefix}
 use Rattle.x86.specs.declared.enums.Instruction.{Instruction}
 use Rattle.x86.specs.Registers.{xmm, RAX, RCX, RDI}
-use Rattle.codegen.specs.Context.{Context, label_at}
-use Rattle.codegen.specs.Utils.{convert_var, own_size}
+use Rattle.codegen.specs.Context.{label_at}
 use Rattle.codegen.specs.Instructions.{move, func_epilogue}
-use Rattle.utils.specs.declared.slots.Slot.{Slot}
-use Rattle.utils.specs.Sources.{source_of, load_of}
-use Rattle.instructions.specs.declared.Branch.{Branch}
-use Rattle.instructions.specs.declared.BranchResult.{BranchResult}
-use Rattle.instructions.specs.declared.Zeroed.{Zeroed}
-use Rattle.instructions.specs.declared.ZeroedResult.{ZeroedResult}
+use Rattle.utils.specs.Sources.{load_of}
 
 -- ---- return: its source alone is looked up
 
+-- where the value comes back
 abbrev pub return_register : IrType → Register
 return_register ret = cond (is_float ret) (xmm 0) RAX
 
-abbrev pub return_of : Context → IrType → IrOp → Operand → List Instruction
-return_of ctx ret op src = load_of (return_register ret) src (own_size ctx op) ∷ func_epilogue
-
--- ---- copies: dest's slot is looked up by utils' `lookSlot`, then the source
-
--- a source is loaded by a size, and RAX is stored to a slot
-abbrev pub moved_of : Operand → Size → Slot → List Instruction
-moved_of src by t = load_of RAX src by ∷ move t.var (Operand.Reg RAX) t.size ∷ []
+-- a load of the value, then the epilogue
+abbrev pub return_of : Register → Operand → Size → List Instruction
+return_of reg src size = load_of reg src size ∷ func_epilogue
 
 -- ---- zero
 
-abbrev pub zeroed_says : ZeroedResult → Result Zeroed
-zeroed_says (ZeroedResult.Is t) = ok t
-zeroed_says (ZeroedResult.Refused n) = refused n
-
-abbrev pub look_zero : Context → VarId → Result Zeroed
-look_zero ctx dest = do
-  bytes ← type_size dest.ty
-  var ← convert_var ctx dest
-  ok (record { bytes = bytes; var = var })
-
-abbrev pub zero_of : Zeroed → List Instruction
-zero_of t =
-    Instruction.Lea t.var RDI Size.NoSize ∷ move (Operand.Reg RCX) (Operand.Imm t.bytes) Size.U64 ∷ move (Operand.Reg RAX) (Operand.Imm 0) Size.U64
+-- so many bytes of a slot are zeroed
+abbrev pub zero_of : ℕ → Operand → List Instruction
+zero_of bytes var =
+    Instruction.Lea var RDI Size.NoSize ∷ move (Operand.Reg RCX) (Operand.Imm bytes) Size.U64 ∷ move (Operand.Reg RAX) (Operand.Imm 0) Size.U64
     ∷ Instruction.Prefix Prefix.Rep StringOp.Stos Size.U8 ∷ []
 
--- ---- labels and jumps: of the first two, the label alone is looked up
+-- ---- labels and jumps
 
-abbrev pub label_of : ℕ → List Instruction
-label_of label = Instruction.Label label ∷ []
+-- a label is looked up, and one record is made
+abbrev pub labelled : ℕ → ℕ → Instruction → Result (List Instruction)
+labelled labels id i = label_at labels id >>= λ label. ok (i ∷ [])
 
-abbrev pub jump_of : ℕ → List Instruction
-jump_of label = Instruction.Ctrl CtrlOp.Jmp (Operand.Label label) ∷ []
-
-abbrev pub branch_says : BranchResult → Result Branch
-branch_says (BranchResult.Is t) = ok t
-branch_says (BranchResult.Refused n) = refused n
-
-abbrev pub look_branch : Context → ℕ → IrOp → ℕ → Result Branch
-look_branch ctx labels condition target = do
-  src ← source_of ctx condition
-  label ← label_at labels target
-  ok (record { src = src; label = label })
-
-abbrev pub branch_of : Branch → List Instruction
-branch_of t =
-    load_of RAX t.src Size.U8 ∷ Instruction.Binary BinOp.Cmp (Operand.Reg RAX) (Operand.Imm 0) Size.U8
-    ∷ Instruction.Ctrl (CtrlOp.JmpCC ConditionCode.E) (Operand.Label t.label) ∷ []
+-- a condition's source is compared with zero
+abbrev pub branch_of : Operand → ℕ → List Instruction
+branch_of src label =
+    load_of RAX src Size.U8 ∷ Instruction.Binary BinOp.Cmp (Operand.Reg RAX) (Operand.Imm 0) Size.U8
+    ∷ Instruction.Ctrl (CtrlOp.JmpCC ConditionCode.E) (Operand.Label label) ∷ []

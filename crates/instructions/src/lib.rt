@@ -2,54 +2,27 @@
 #![tactic(auto)]
 
 ghost use Rattle.std.specs.Prelude.{◌≡◌, ◌+◌, ◌≤◌, length};
-ghost use Rattle.cells.specs.Cells.{cells, cell_at, write};
-ghost use Rattle.ir.specs.Function.{var_at, operand_at};
-ghost use Rattle.ir.specs.Answers.{number_says};
+ghost use Rattle.cells.specs.Cells.{write};
+ghost use Rattle.ir.specs.Answers.{says};
+ghost use Rattle.ir.specs.Lines.{operation_of, dest_of, left_of};
 ghost use Rattle.x86.specs.Records.{list_bytes};
 ghost use Rattle.codegen.specs.Context.{label_at};
 ghost use Rattle.codegen.specs.Instructions.{func_epilogue, generate_return, generate_copy, generate_zero, generate_label, generate_jump, generate_jmp_if_not};
-ghost use Rattle.utils.specs.Answers.{lent};
+ghost use Rattle.utils.specs.Answers.{held};
 ghost use Rattle.utils.specs.Makes.{Makes, Ready};
-ghost use Rattle.instructions.specs.Looks.{return_register, moved_of, zeroed_says, look_zero, zero_of, branch_says, look_branch, branch_of};
+ghost use Rattle.instructions.specs.Looks.{return_register, return_of, zero_of, labelled, branch_of};
 
-use cells::cell_at;
-use cells::refusals::NO_ENTRY;
+use cells::refusals::Refusal;
 use ir::Type;
-use ir::read::type_at;
-use ir::types::Number;
-use records::{put_ctrl, put_instruction, put_label, put_lea, put_prefix, put_stack};
-use utils::slots::{Slot, SlotResult, look_slot_at};
-use utils::{CountResult, OperandResult, convert_var_at, mov, own_size_at, put_load, source_at};
+use ir::lines::Line;
+use records::put_instruction;
+use utils::context::Context;
+use utils::slots::{look_slot, put_moved};
+use utils::{convert_var, mov, own_size, put_load, source};
 use x86::enums::{
     BinOp, ConditionCode, CtrlOp, Instruction, Operand, Prefix, Size, StackOp, StringOp,
 };
 use x86::register::Register;
-
-// The look-ups find a condition's source and a label.
-#[derive(Clone, Copy)]
-pub struct Branch {
-    pub src: Operand,
-    pub label: u64,
-}
-
-#[derive(Clone, Copy)]
-pub enum BranchResult {
-    Is(Branch),
-    Refused(u64),
-}
-
-// The look-ups find the bytes of a variable, and its slot.
-#[derive(Clone, Copy)]
-pub struct Zeroed {
-    pub bytes: u64,
-    pub var: Operand,
-}
-
-#[derive(Clone, Copy)]
-pub enum ZeroedResult {
-    Is(Zeroed),
-    Refused(u64),
-}
 
 // It writes `mov rsp, rbp ; pop rbp ; ret`.
 pub fn func_epilogue(out: &mut [u8], at: usize)
@@ -58,7 +31,7 @@ pub fn func_epilogue(out: &mut [u8], at: usize)
 {
     let rbp = Operand::Reg(Register::RBP);
     put_instruction(out, at, mov(Operand::Reg(Register::RSP), rbp, Size::NoSize));
-    put_stack(
+    put_instruction(
         out,
         at + 64,
         Instruction::Stack {
@@ -67,7 +40,7 @@ pub fn func_epilogue(out: &mut [u8], at: usize)
             size: Size::NoSize,
         },
     );
-    put_ctrl(
+    put_instruction(
         out,
         at + 128,
         Instruction::Ctrl {
@@ -88,105 +61,67 @@ fn return_register(ret: Type) -> Register
     }
 }
 
+fn put_return(out: &mut [u8], at: usize, reg: Register, src: Operand, size: Size)
+    requires { at + 256 ≤ length out.old }
+    ensures { out.new ≡ write out.old at (list_bytes (return_of reg src size)) }
+{
+    put_load(out, at, reg, src, size);
+    func_epilogue(out, at + 64);
+}
+
 // It makes a load, then the epilogue.
+#[tactic(auto, using(crate::proofs::Looked::return_looked))]
 pub fn generate_return(
-    tables: &[u8],
-    offsets: &[u64],
-    s: &[u8],
-    k: usize,
+    context: &Context,
+    line: &Line,
     ret: Type,
     out: &mut [u8],
     at: usize,
     write: bool,
-) -> CountResult
-    requires k_bound { k + 13 ≤ cells s.now }
-    requires ready { Ready write (generate_return (lent tables.now offsets.now) ret (operand_at s.now (k + 5))) at (length out.old) }
-    ensures { Makes write (generate_return (lent tables.now offsets.now) ret (operand_at s.now (k + 5))) at out.old out.new result }
+) -> Result<u64, Refusal>
+    requires { Ready write (generate_return (held context.now) ret (left_of line.now)) at (length out.old) }
+    ensures { Makes write (generate_return (held context.now) ret (left_of line.now)) at out.old out.new result }
 {
-    match source_at(tables, offsets, s, k + 5) {
-        OperandResult::Is(src) => {
-            if write {
-                put_load(
-                    out,
-                    at,
-                    return_register(ret),
-                    src,
-                    own_size_at(tables, offsets, s, k + 5),
-                );
-                func_epilogue(out, at + 64);
-            }
-            CountResult::Records(4)
-        }
-        OperandResult::Refused(n) => CountResult::Refused(n),
+    let src = source(context, line.left())?;
+    if write {
+        put_return(
+            out,
+            at,
+            return_register(ret),
+            src,
+            own_size(context, line.left()),
+        );
     }
-}
-
-// ---- copies
-
-// It loads the source by the size `by`, and stores RAX to a slot.
-pub fn put_moved(out: &mut [u8], at: usize, src: Operand, by: Size, t: Slot)
-    requires { at + 128 ≤ length out.old }
-    ensures { out.new ≡ write out.old at (list_bytes (moved_of src by t)) }
-{
-    let var = t.var;
-    let size = t.size;
-    put_load(out, at, Register::RAX, src, by);
-    put_instruction(out, at + 64, mov(var, Operand::Reg(Register::RAX), size));
+    Ok(4)
 }
 
 // It makes `dest = src`, sized by dest.
+#[tactic(auto, using(crate::proofs::Looked::copy_looked))]
 pub fn generate_copy(
-    tables: &[u8],
-    offsets: &[u64],
-    s: &[u8],
-    k: usize,
+    context: &Context,
+    line: &Line,
     out: &mut [u8],
     at: usize,
     write: bool,
-) -> CountResult
-    requires k_bound { k + 13 ≤ cells s.now }
-    requires ready { Ready write (generate_copy (lent tables.now offsets.now) (var_at s.now (k + 2)) (operand_at s.now (k + 5))) at (length out.old) }
-    ensures { Makes write (generate_copy (lent tables.now offsets.now) (var_at s.now (k + 2)) (operand_at s.now (k + 5))) at out.old out.new result }
+) -> Result<u64, Refusal>
+    requires { Ready write (generate_copy (held context.now) (dest_of line.now) (left_of line.now)) at (length out.old) }
+    ensures { Makes write (generate_copy (held context.now) (dest_of line.now) (left_of line.now)) at out.old out.new result }
 {
-    let t = match look_slot_at(tables, offsets, s, k + 2) {
-        SlotResult::Is(t) => t,
-        SlotResult::Refused(n) => return CountResult::Refused(n),
-    };
-    match source_at(tables, offsets, s, k + 5) {
-        OperandResult::Is(src) => {
-            let size = t.size;
-            if write {
-                put_moved(out, at, src, size, t);
-            }
-            CountResult::Records(2)
-        }
-        OperandResult::Refused(n) => CountResult::Refused(n),
+    let slot = look_slot(context, line.dest())?;
+    let src = source(context, line.left())?;
+    if write {
+        put_moved(out, at, src, slot.size, slot);
     }
+    Ok(2)
 }
 
 // ---- zero
 
-fn look_zero(tables: &[u8], offsets: &[u64], s: &[u8], k: usize) -> ZeroedResult
-    requires { k + 13 ≤ cells s.now }
-    ensures { zeroed_says result ≡ look_zero (lent tables.now offsets.now) (var_at s.now (k + 2)) }
-{
-    let ty = type_at(s, k + 3);
-    let bytes = match ty.size() {
-        Number::Is(n) => n,
-        Number::Refused(n) => return ZeroedResult::Refused(n),
-    };
-    match convert_var_at(tables, offsets, s, k + 2) {
-        OperandResult::Is(var) => ZeroedResult::Is(Zeroed { bytes, var }),
-        OperandResult::Refused(n) => ZeroedResult::Refused(n),
-    }
-}
-
-fn put_zero(out: &mut [u8], at: usize, t: Zeroed)
+fn put_zero(out: &mut [u8], at: usize, bytes: u64, var: Operand)
     requires { at + 256 ≤ length out.old }
-    ensures { out.new ≡ write out.old at (list_bytes (zero_of t)) }
+    ensures { out.new ≡ write out.old at (list_bytes (zero_of bytes var)) }
 {
-    let var = t.var;
-    put_lea(
+    put_instruction(
         out,
         at,
         Instruction::Lea {
@@ -198,18 +133,14 @@ fn put_zero(out: &mut [u8], at: usize, t: Zeroed)
     put_instruction(
         out,
         at + 64,
-        mov(
-            Operand::Reg(Register::RCX),
-            Operand::Imm(t.bytes),
-            Size::U64,
-        ),
+        mov(Operand::Reg(Register::RCX), Operand::Imm(bytes), Size::U64),
     );
     put_instruction(
         out,
         at + 128,
         mov(Operand::Reg(Register::RAX), Operand::Imm(0), Size::U64),
     );
-    put_prefix(
+    put_instruction(
         out,
         at + 192,
         Instruction::Prefix {
@@ -221,99 +152,96 @@ fn put_zero(out: &mut [u8], at: usize, t: Zeroed)
 }
 
 // It makes `lea rdi, [dest] ; mov rcx, size ; mov rax, 0 ; rep stosb`.
+#[tactic(auto, unfolding(codegen::specs::Instructions::generate_zero))]
 pub fn generate_zero(
-    tables: &[u8],
-    offsets: &[u64],
-    s: &[u8],
-    k: usize,
+    context: &Context,
+    line: &Line,
     out: &mut [u8],
     at: usize,
     write: bool,
-) -> CountResult
-    requires k_bound { k + 13 ≤ cells s.now }
-    requires ready { Ready write (generate_zero (lent tables.now offsets.now) (var_at s.now (k + 2))) at (length out.old) }
-    ensures { Makes write (generate_zero (lent tables.now offsets.now) (var_at s.now (k + 2))) at out.old out.new result }
+) -> Result<u64, Refusal>
+    requires { Ready write (generate_zero (held context.now) (dest_of line.now)) at (length out.old) }
+    ensures { Makes write (generate_zero (held context.now) (dest_of line.now)) at out.old out.new result }
 {
-    match look_zero(tables, offsets, s, k) {
-        ZeroedResult::Is(t) => {
-            if write {
-                put_zero(out, at, t);
-            }
-            CountResult::Records(4)
-        }
-        ZeroedResult::Refused(n) => CountResult::Refused(n),
+    let bytes = line.dest().ty.size()?;
+    let var = convert_var(context, line.dest())?;
+    if write {
+        put_zero(out, at, bytes, var);
     }
+    Ok(4)
 }
 
 // ---- labels and jumps
 
 // It is `ctx.labels[id]`, of so many labels.
-fn label_at(labels: u64, id: u64) -> Number
-    ensures { number_says result ≡ label_at labels id }
+#[tactic(auto, unfolding(codegen::specs::Context::label_at))]
+fn label_at(labels: u64, id: u64) -> Result<u64, Refusal>
+    ensures { says result ≡ label_at labels id }
 {
     if id < labels {
-        Number::Is(id)
+        Ok(id)
     } else {
-        Number::Refused(NO_ENTRY)
+        Err(Refusal::NoEntry)
     }
 }
 
-pub fn generate_label(labels: u64, id: u64, out: &mut [u8], at: usize, write: bool) -> CountResult
+// A label is looked up, and one record is made.
+#[inline(always)]
+#[tactic(auto, unfolding(x86::specs::Records::list_bytes))]
+fn labelled(
+    labels: u64,
+    id: u64,
+    i: Instruction,
+    out: &mut [u8],
+    at: usize,
+    write: bool,
+) -> Result<u64, Refusal>
+    requires { Ready write (labelled labels id i) at (length out.old) }
+    ensures { Makes write (labelled labels id i) at out.old out.new result }
+{
+    label_at(labels, id)?;
+    if write {
+        put_instruction(out, at, i);
+    }
+    Ok(1)
+}
+
+#[tactic(auto, unfolding(codegen::specs::Instructions::generate_label, codegen::specs::Context::label_at))]
+pub fn generate_label(
+    labels: u64,
+    id: u64,
+    out: &mut [u8],
+    at: usize,
+    write: bool,
+) -> Result<u64, Refusal>
     requires { Ready write (generate_label labels id) at (length out.old) }
     ensures { Makes write (generate_label labels id) at out.old out.new result }
 {
-    match label_at(labels, id) {
-        Number::Is(label) => {
-            if write {
-                put_label(out, at, Instruction::Label(label));
-            }
-            CountResult::Records(1)
-        }
-        Number::Refused(n) => CountResult::Refused(n),
-    }
+    labelled(labels, id, Instruction::Label(id), out, at, write)
 }
 
-pub fn generate_jump(labels: u64, id: u64, out: &mut [u8], at: usize, write: bool) -> CountResult
+#[tactic(auto, unfolding(codegen::specs::Instructions::generate_jump, codegen::specs::Context::label_at))]
+pub fn generate_jump(
+    labels: u64,
+    id: u64,
+    out: &mut [u8],
+    at: usize,
+    write: bool,
+) -> Result<u64, Refusal>
     requires { Ready write (generate_jump labels id) at (length out.old) }
     ensures { Makes write (generate_jump labels id) at out.old out.new result }
 {
-    match label_at(labels, id) {
-        Number::Is(label) => {
-            if write {
-                put_ctrl(
-                    out,
-                    at,
-                    Instruction::Ctrl {
-                        op: CtrlOp::Jmp,
-                        target: Operand::Label(label),
-                    },
-                );
-            }
-            CountResult::Records(1)
-        }
-        Number::Refused(n) => CountResult::Refused(n),
-    }
-}
-
-fn look_branch(tables: &[u8], offsets: &[u64], s: &[u8], k: usize, labels: u64) -> BranchResult
-    requires { k + 13 ≤ cells s.now }
-    ensures { branch_says result ≡ look_branch (lent tables.now offsets.now) labels (operand_at s.now (k + 5)) (cell_at s.now (k + 1)) }
-{
-    let src = match source_at(tables, offsets, s, k + 5) {
-        OperandResult::Is(src) => src,
-        OperandResult::Refused(n) => return BranchResult::Refused(n),
+    let jump = Instruction::Ctrl {
+        op: CtrlOp::Jmp,
+        target: Operand::Label(id),
     };
-    match label_at(labels, cell_at(s, k + 1)) {
-        Number::Is(label) => BranchResult::Is(Branch { src, label }),
-        Number::Refused(n) => BranchResult::Refused(n),
-    }
+    labelled(labels, id, jump, out, at, write)
 }
 
-fn put_branch(out: &mut [u8], at: usize, t: Branch)
+fn put_branch(out: &mut [u8], at: usize, src: Operand, label: u64)
     requires { at + 192 ≤ length out.old }
-    ensures { out.new ≡ write out.old at (list_bytes (branch_of t)) }
+    ensures { out.new ≡ write out.old at (list_bytes (branch_of src label)) }
 {
-    let src = t.src;
     put_load(out, at, Register::RAX, src, Size::U8);
     put_instruction(
         out,
@@ -325,38 +253,33 @@ fn put_branch(out: &mut [u8], at: usize, t: Branch)
             size: Size::U8,
         },
     );
-    put_ctrl(
+    put_instruction(
         out,
         at + 128,
         Instruction::Ctrl {
             op: CtrlOp::JmpCC(ConditionCode::E),
-            target: Operand::Label(t.label),
+            target: Operand::Label(label),
         },
     );
 }
 
 // It makes `mov al, cond ; cmp al, 0 ; je target`.
+#[tactic(auto, using(crate::proofs::Looked::branch_looked))]
 pub fn generate_jmp_if_not(
-    tables: &[u8],
-    offsets: &[u64],
-    s: &[u8],
-    k: usize,
+    context: &Context,
+    line: &Line,
     labels: u64,
     out: &mut [u8],
     at: usize,
     write: bool,
-) -> CountResult
-    requires k_bound { k + 13 ≤ cells s.now }
-    requires ready { Ready write (generate_jmp_if_not (lent tables.now offsets.now) labels (operand_at s.now (k + 5)) (cell_at s.now (k + 1))) at (length out.old) }
-    ensures { Makes write (generate_jmp_if_not (lent tables.now offsets.now) labels (operand_at s.now (k + 5)) (cell_at s.now (k + 1))) at out.old out.new result }
+) -> Result<u64, Refusal>
+    requires { Ready write (generate_jmp_if_not (held context.now) labels (left_of line.now) (operation_of line.now)) at (length out.old) }
+    ensures { Makes write (generate_jmp_if_not (held context.now) labels (left_of line.now) (operation_of line.now)) at out.old out.new result }
 {
-    match look_branch(tables, offsets, s, k, labels) {
-        BranchResult::Is(t) => {
-            if write {
-                put_branch(out, at, t);
-            }
-            CountResult::Records(3)
-        }
-        BranchResult::Refused(n) => CountResult::Refused(n),
+    let src = source(context, line.left())?;
+    let label = label_at(labels, line.operation())?;
+    if write {
+        put_branch(out, at, src, label);
     }
+    Ok(3)
 }

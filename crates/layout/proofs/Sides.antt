@@ -1,11 +1,11 @@
--- The kinds without a label, and left and right as one list of operands, with the unused cells behind it.
-use Prim.Native.Nat.{ℕ, zero, suc, ◌+◌, ◌*◌, ◌-◌, ◌≤◌}
+-- Left and right as one list of operands, with the unused cells behind it.
+use Prim.Native.Nat.{ℕ, zero, suc, ◌+◌, ◌*◌, ◌-◌}
 use mathlib.Core.Path.{◌≡◌, refl, sym, ap, ◌∙◌}
-use mathlib.Core.Bool.{Bool, true, false, cond, ◌&&◌}
+use mathlib.Core.Bool.{Bool, true, false, cond}
 use mathlib.Core.List.{List}
 use native.Mathlib.Omega.{arith}
-use borrow.Author.Tests.{eqb-true, leb-true, lt-leb}
-use lib.Dec.{eqb, leb}
+use borrow.Author.Tests.{eqb-true}
+use lib.Dec.{eqb}
 use Rattle.std.specs.Prelude.{Ok, Err}
 use Rattle.cells.specs.Cells.{Cell, read_within, bind_cell}
 use Rattle.cells.specs.declared.Cursor.{Cursor}
@@ -14,24 +14,10 @@ use Rattle.layout.specs.declared.Edition.{Edition}
 use Rattle.layout.specs.Layout.{Checked, Limited, refuse, bind_limited, bind_checked, zeros_check, operand_in, operands_in, has_left, side_in, call_check, body_in}
 use Rattle.layout.specs.Sides.{sides_of, unused_of}
 
--- a kind that is none of three
-pub no_label : (k : ℕ) → (k ≡ 6 → ⊥) → (k ≡ 7 → ⊥) → (k ≡ 8 → ⊥) → (leb 6 k && leb k 8) ≡ false
-no_label k a b c = go (leb 6 k) refl
-  where
-    go : (t : Bool) → leb 6 k ≡ t → (t && leb k 8) ≡ false
-    go true p = let l : 6 ≤ k = leb-true _ _ p in lt-leb k 8 (omega arith)
-    go false p = refl
-
 -- nothing follows
 last_one : (x : Checked) → bind_checked Err x (λ c. Ok c) ≡ x
 last_one (Ok c) = refl
 last_one (Err r) = refl
-
--- one part and another, then a third
-in_order : (x : Checked) (f g : Cursor → Checked) →
-    bind_checked Err (bind_checked Err x f) g ≡ bind_checked Err x (λ c. bind_checked Err (f c) g)
-in_order (Ok c) f g = refl
-in_order (Err r) f g = refl
 
 alike : (x : Checked) {f g : Cursor → Checked} → ((c : Cursor) → f c ≡ g c) → bind_checked Err x f ≡ bind_checked Err x g
 alike (Ok c) e = e c

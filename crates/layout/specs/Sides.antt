@@ -1,4 +1,4 @@
--- Auxiliary: left and right as a list of operands and the unused cells behind them, equal to `bodyIn` by `one_list` (proofs/Sides.antt).
+-- Auxiliary: left and right as a list of operands and the unused cells behind them, equal to `body_in` by `one_list` (proofs/Sides.antt).
 use Rattle.std.specs.Prelude.{ℕ, ◌*◌, ◌-◌, cond, eqb}
 use Rattle.layout.specs.Layout.{has_left}
 

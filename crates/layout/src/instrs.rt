@@ -87,6 +87,7 @@ fn operands_of(s: &[u8], kind: u64, c: Cursor) -> Result<(u64, Cursor), Refused>
 }
 
 // Left, right and a call's arguments are read as one list, so that `operands_check` is called from one place, where it is inlined.
+#[tactic(auto, using(crate::proofs::Sides::one_list))]
 fn body_check(e: Edition, s: &[u8], kind: u64, c: Cursor) -> Result<Cursor, Refused>
     ensures { result ≡ body_in e s.now kind c }
 {

@@ -67,10 +67,11 @@ pub(crate) fn limited(s: &[u8], c: Cursor, most: u64) -> Result<(u64, Cursor), R
     ensures { result ≡ limited s.now c most }
 {
     let (v, next) = c.within(s, 0, LARGEST).map_err(torn)?;
-    if most < v {
-        return Err(oversize(c.at));
+    if v <= most {
+        Ok((v, next))
+    } else {
+        Err(oversize(c.at))
     }
-    Ok((v, next))
 }
 
 // The count of a type is -1 for no array, or from 0 to its limit.

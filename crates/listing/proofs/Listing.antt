@@ -11,7 +11,8 @@ use Rattle.x86.specs.Records.{record_of, list_bytes}
 use Rattle.x86.proofs.Decoded.{record_bytes_length}
 use Rattle.codegen.specs.Generation.{Outcome, accepted, refused, lowered, records_after}
 use Rattle.generation.specs.Answers.{counted_outcome}
-use Rattle.text.specs.declared.input.Parts.{Parts}
+use Rattle.std.specs.Prelude.{Ok, Err}
+use Rattle.text.specs.declared.input.InputError.{InputError}
 use Rattle.text.specs.Text.{ok_line, refused_line, too_long_line}
 use Rattle.text.specs.Records.{records_text}
 use Rattle.text.specs.Input.{split_of, tables_part, sheet_part}
@@ -89,20 +90,20 @@ sheet_lent : (s : List ℕ) (n : ℕ) → take (length s - (8 + 8 * n)) (drop (8
 sheet_lent s n = take_all (length s - (8 + 8 * n)) (drop (8 + 8 * n) s) (simp length-drop (omega arith))
 
 module _ (s : List ℕ) where
-  pub too_long : split_of s ≡ Parts.TooLong → too_long_line ≡ listing_text s
+  pub too_long : split_of s ≡ Err InputError.TooLong → too_long_line ≡ listing_text s
   unfolding listing_text listing_lines flatten
   too_long e = rw e
 
-  pub no_tables : split_of s ≡ Parts.NoTables → refused_line 1 0 ≡ listing_text s
+  pub no_tables : split_of s ≡ Err InputError.NoTables → refused_line 1 0 ≡ listing_text s
   unfolding listing_text listing_lines flatten
   no_tables e = rw e (sym (append-nil _))
 
-  pub parts_text : (n : ℕ) → split_of s ≡ Parts.Tables n →
+  pub parts_text : (n : ℕ) → split_of s ≡ Ok n →
       flatten (answer_lines (lowered (take (8 + 8 * n - 8) (drop 8 s)) (take (length s - (8 + 8 * n)) (drop (8 + 8 * n) s)) 65536)) ≡ listing_text s
   unfolding listing_text listing_lines
   parts_text n e = rw (e, tables_lent s n, sheet_lent s n)
 
-  pub parts_records_lem : (n : ℕ) (old : List ℕ) {out : List ℕ} → split_of s ≡ Parts.Tables n →
+  pub parts_records_lem : (n : ℕ) (old : List ℕ) {out : List ℕ} → split_of s ≡ Ok n →
       out ≡ records_after (lowered (take (8 + 8 * n - 8) (drop 8 s)) (take (length s - (8 + 8 * n)) (drop (8 + 8 * n) s)) 65536) old → out ≡ listing_records s old
   unfolding listing_records
   parts_records_lem n old e x = rw e (rw (tables_lent s n, sheet_lent s n) at x)

@@ -4,7 +4,8 @@ use mathlib.Core.List.{List, [], ◌∷◌, map, flatten}
 use Rattle.x86.specs.declared.enums.Instruction.{Instruction}
 use Rattle.x86.specs.Records.{Record, record_of}
 use Rattle.codegen.specs.Generation.{Outcome, accepted, refused, lowered, records_after}
-use Rattle.text.specs.declared.input.Parts.{Parts}
+use Rattle.std.specs.Prelude.{Result, Ok, Err}
+use Rattle.text.specs.declared.input.InputError.{InputError}
 use Rattle.text.specs.Input.{split_of, tables_part, sheet_part}
 use Rattle.text.specs.Text.{numbers_line, ok_line, refused_line, too_long_line}
 
@@ -26,10 +27,10 @@ abbrev pub answer_to : List ℕ → ℕ → Outcome (List Instruction)
 answer_to s n = lowered (tables_part s n) (sheet_part s n) 65536
 
 -- the lines by the parts of an input ("A first cell that is missing, negative or above the number of whole cells behind it gives `refused 1 0`")
-abbrev pub parts_lines : Parts → List ℕ → List (List ℕ)
-parts_lines Parts.TooLong s = too_long_line ∷ []
-parts_lines Parts.NoTables s = refused_line 1 0 ∷ []
-parts_lines (Parts.Tables n) s = answer_lines (answer_to s n)
+abbrev pub parts_lines : Result ℕ InputError → List ℕ → List (List ℕ)
+parts_lines (Err InputError.TooLong) s = too_long_line ∷ []
+parts_lines (Err InputError.NoTables) s = refused_line 1 0 ∷ []
+parts_lines (Ok n) s = answer_lines (answer_to s n)
 
 -- the lines for an input
 unfoldable pub listing_lines : List ℕ → List (List ℕ)
@@ -40,10 +41,10 @@ unfoldable pub listing_text : List ℕ → List ℕ
 listing_text s = flatten (listing_lines s)
 
 -- the record bytes by the parts of an input; an input without parts is not lowered
-abbrev pub parts_records : Parts → List ℕ → List ℕ → List ℕ
-parts_records Parts.TooLong s old = old
-parts_records Parts.NoTables s old = old
-parts_records (Parts.Tables n) s old = records_after (answer_to s n) old
+abbrev pub parts_records : Result ℕ InputError → List ℕ → List ℕ → List ℕ
+parts_records (Err InputError.TooLong) s old = old
+parts_records (Err InputError.NoTables) s old = old
+parts_records (Ok n) s old = records_after (answer_to s n) old
 
 -- the record bytes after the listing of an input
 unfoldable pub listing_records : List ℕ → List ℕ → List ℕ

@@ -6,8 +6,8 @@ ghost use Rattle.codegen.specs.Generation.{lowered, records_after};
 ghost use Rattle.text.specs.Text.{Put, Counts};
 ghost use Rattle.listing.specs.Listing.{answer_lines, listing_text, listing_records};
 
-use generation::{Answer, generate};
-use text::input::{Parts, split};
+use generation::generate;
+use text::input::{InputError, split};
 use text::{ok_text, refused_text, too_long_text};
 
 // It lowers tables and sheet into the record bytes, and makes the text for the answer; its own answer is the text's length.
@@ -22,8 +22,8 @@ fn list_parts(
     ensures counts { Counts result text.new }
 {
     match generate(tables, sheet, records) {
-        Answer::Accepted(n) => ok_text(n as usize, records, text),
-        Answer::Refused(n, place) => refused_text(n, place, text),
+        Ok(n) => ok_text(n as usize, records, text),
+        Err(refused) => refused_text(u64::from(refused.refusal), refused.place, text),
     }
 }
 
@@ -34,9 +34,9 @@ pub fn list(input: &[u8], records: &mut [u8; 65536], text: &mut [u8; 65536]) -> 
     ensures counts { Counts result text.new }
 {
     match split(input) {
-        Parts::TooLong => too_long_text(text),
-        Parts::NoTables => refused_text(1, 0, text),
-        Parts::Tables(n) => {
+        Err(InputError::TooLong) => too_long_text(text),
+        Err(InputError::NoTables) => refused_text(1, 0, text),
+        Ok(n) => {
             let end = 8 + 8 * n;
             list_parts(&input[8..end], &input[end..], records, text)
         }

@@ -10,24 +10,18 @@ use crate::lister::list;
 use std::io::{self, Write};
 use streams::read_full;
 
-// There is room for one byte more than an input may have. The `ensures` gives the length, which lending the array as a slice needs.
-fn room() -> [u8; 65537]
-    ensures { 65537 ≡ length result }
+// The `ensures` gives the length, which lending the array as a slice needs.
+fn room<const N: usize>() -> [u8; N]
+    ensures { N ≡ length result }
 {
-    [0; 65537]
-}
-
-// There is room for records, and for text.
-fn page() -> [u8; 65536]
-    ensures { 65536 ≡ length result }
-{
-    [0; 65536]
+    [0; N]
 }
 
 fn main(rt: HostRuntime) -> io::Result<()> {
-    let mut input = room();
-    let mut records = page();
-    let mut text = page();
+    // An input of one byte more than it may have is too long.
+    let mut input = room::<65537>();
+    let mut records = room::<65536>();
+    let mut text = room::<65536>();
     let n = read_full(&mut rt.reader(), &mut input)?;
     let end = list(&input[..n], &mut records, &mut text);
     io::writer(&rt).write_all(&text[..end])

@@ -9,7 +9,8 @@ use lib.ListN.{length}
 use native.Mathlib.Omega.{arith}
 use native.Mathlib.Nat.{eq-or-lt_of_le, le_of_suc-le-suc}
 use borrow.Author.Tests.{ne_eqb}
-use Rattle.layout.specs.declared.Checked.{Checked}
+use Rattle.std.specs.Prelude.{Ok, Err}
+use Rattle.layout.specs.Layout.{Checked}
 use Rattle.layout.specs.Layout.{tables_check, sheet_check}
 use Rattle.ir.specs.Function.{Function, Line, tables_of, function_of}
 use Rattle.x86.specs.declared.enums.Instruction.{Instruction}
@@ -90,10 +91,10 @@ module _ (t s : List ℕ) where
       go : (a b : Checked)
           → after_layout a 0 (λ u. after_layout b 0 (λ v. not (is_plain_at (function_of s) 0) || is_refused_at (generate (tables_of t) (function_of s)) 0)) ≡ false
           → after_layout a k (λ u. after_layout b k (λ v. not (is_plain_at (function_of s) k) || is_refused_at (generate (tables_of t) (function_of s)) k)) ≡ false
-      go (Checked.Behind c) (Checked.Behind d) e =
+      go (Ok c) (Ok d) e =
           rw (plain_beyond (function_of s) k h, refused_beyond k h (generate (tables_of t) (function_of s)) refl)
-      go (Checked.Behind c) (Checked.Refused n j) e = absurd (false≢true (sym e))
-      go (Checked.Refused n j) b e = absurd (false≢true (sym e))
+      go (Ok c) (Err r) e = absurd (false≢true (sym e))
+      go (Err r) b e = absurd (false≢true (sym e))
 
   -- ---- the answer
 

@@ -17,7 +17,7 @@ use Rattle.ir.specs.Types.{ok, no_array, is_scalar, element_width, bytes, type_s
 use Rattle.ir.specs.Function.{Function, Line, binary_op}
 use Rattle.machine.specs.Word.{W}
 use Rattle.machine.specs.Steps as steps
-use Rattle.machine.specs.Steps.{width, is_signed_type, is_label}
+use Rattle.machine.specs.Steps.{width, is_signed_type, is_label, is_logical}
 use Rattle.machine.specs.Plain.{every, is_plain_code, is_plain_return, same_type, no_type, is_entry, is_scalar_var, is_plain_head, is_short, is_small, is_plain_operand, long_constant, is_bool_type, is_bool, is_one_byte, is_plain_binary, is_plain_cast, label_count, is_plain_instr, is_plain_line, is_plain_at, are_distinct}
 use Rattle.machine.specs.Frames.{size_of}
 use Rattle.machine.proofs.Tests.{both, not-true, four_cases}
@@ -258,6 +258,27 @@ plain_binary op d x y = go op
     go BinaryOp.Mul e = let h = both (eqb (width x) (bytes d.ty)) (not (is_one_byte d)) e in (same h.0, wide d h.1)
     go BinaryOp.Div e = same e
     go BinaryOp.Rem e = let h = both (eqb (width x) (bytes d.ty)) (not (is_one_byte d)) e in (same h.0, wide d h.1)
+
+-- the logical pair is not plain
+pub not_logical : (op : BinaryOp) (d : VarId) (x y : IrOp) → PlainBinary op d x y → is_logical op ≡ false
+not_logical BinaryOp.Or d x y h = absurd h
+not_logical BinaryOp.And d x y h = absurd h
+not_logical BinaryOp.BitOr d x y h = refl
+not_logical BinaryOp.BitXor d x y h = refl
+not_logical BinaryOp.BitAnd d x y h = refl
+not_logical BinaryOp.Eq d x y h = refl
+not_logical BinaryOp.NotEq d x y h = refl
+not_logical BinaryOp.Lt d x y h = refl
+not_logical BinaryOp.Le d x y h = refl
+not_logical BinaryOp.Gt d x y h = refl
+not_logical BinaryOp.Ge d x y h = refl
+not_logical BinaryOp.Shl d x y h = refl
+not_logical BinaryOp.Shr d x y h = refl
+not_logical BinaryOp.Add d x y h = refl
+not_logical BinaryOp.Sub d x y h = refl
+not_logical BinaryOp.Mul d x y h = refl
+not_logical BinaryOp.Div d x y h = refl
+not_logical BinaryOp.Rem d x y h = refl
 
 stands : (l : ℕ) (ls : List Line) → 1 ≤ label_count l ls → steps.find l ls < length ls
 unfolding label_count steps.find

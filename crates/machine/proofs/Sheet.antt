@@ -11,7 +11,8 @@ use Rattle.ir.specs.Types.{last_offset}
 use Rattle.ir.specs.Function.{tables_of, function_of}
 use Rattle.cells.specs.declared.Cursor.{Cursor}
 use Rattle.cells.specs.Refusals.{page_full}
-use Rattle.layout.specs.declared.Checked.{Checked}
+use Rattle.std.specs.Prelude.{Ok, Err}
+use Rattle.layout.specs.Layout.{Checked}
 use Rattle.layout.specs.Layout.{tables_check, sheet_check, Laid}
 use Rattle.layout.specs.Limits.{most_count}
 use Rattle.layout.proofs.Laws.{head_total, head_laid}
@@ -28,9 +29,9 @@ use Rattle.machine.proofs.Fits.{sheet_small, sheet_args, sheet_params, code_fits
 
 -- what follows a layout that is right
 checked_accepted : {A : Type 0} (c : Checked) (rest : Unit {0} → Outcome A) (a : A) → checked c rest ≡ accepted a
-    → (rest tt ≡ accepted a) × ((k : ℕ) (f : Unit {0} → Bool) → after_layout c k f ≡ f tt) × ((d : Cursor) × (c ≡ Checked.Behind d))
-checked_accepted (Checked.Behind c) rest a e = (e, (λ k f. refl), (c, refl))
-checked_accepted (Checked.Refused n cell) rest a e = absurd (never e)
+    → (rest tt ≡ accepted a) × ((k : ℕ) (f : Unit {0} → Bool) → after_layout c k f ≡ f tt) × ((d : Cursor) × (c ≡ Ok d))
+checked_accepted (Ok c) rest a e = (e, (λ k f. refl), (c, refl))
+checked_accepted (Err r) rest a e = absurd (never e)
 
 page_accepted : (m : ℕ) (b is : List Instruction) → page m b ≡ accepted is → b ≡ is
 page_accepted m b is e = go (ltb m (64 * length b)) e
@@ -47,7 +48,7 @@ module _ (tables sheet : List ℕ) (m : ℕ) (is : List Instruction) (e : lowere
   -- tables and sheet are on the layout
   parts : (generate (tables_of tables) (function_of sheet) ≡ accepted is)
       × ((k : ℕ) → is_fault tables sheet k ≡ (not (is_plain_at (function_of sheet) k) || is_refused_at (generate (tables_of tables) (function_of sheet)) k))
-      × ((d : Cursor) × (sheet_check sheet ≡ Checked.Behind d))
+      × ((d : Cursor) × (sheet_check sheet ≡ Ok d))
   unfolding lowered compiled is_fault
   parts =
       let (b, e₁, f) = split (compiled tables sheet) (page m) is e in

@@ -6,7 +6,8 @@ use Rattle.ir.specs.declared.«Type».{«Type» as IrType}
 use Rattle.ir.specs.declared.VarId.{VarId}
 use Rattle.ir.specs.declared.Operand.{Operand}
 use Rattle.ir.specs.declared.Instr.{Instr}
-use Rattle.layout.specs.declared.Checked.{Checked}
+use Rattle.std.specs.Prelude.{Ok, Err}
+use Rattle.layout.specs.Layout.{Checked}
 use Rattle.ir.specs.Types.{is_scalar, bytes}
 use Rattle.ir.specs.Function.{Function, Line, tables_of, function_of}
 use Rattle.layout.specs.Layout.{tables_check, sheet_check}
@@ -173,8 +174,8 @@ is_refused_at (refused n place) k = eqb place k
 
 -- what follows a layout that is right; refusals 1 to 3 give 0
 abbrev pub after_layout : Checked → ℕ → (Unit {0} → Bool) → Bool
-after_layout (Checked.Behind c) k rest = rest tt
-after_layout (Checked.Refused n cell) k rest = eqb k 0
+after_layout (Ok c) k rest = rest tt
+after_layout (Err r) k rest = eqb k 0
 
 -- whether a number is at fault
 unfoldable pub is_fault : List ℕ → List ℕ → ℕ → Bool

@@ -245,11 +245,31 @@ is_meant (Operand.Address v) = false
 is_meant (Operand.DataAddress k) = false
 is_meant Operand.Null = true
 
+abbrev pub is_logical : BinaryOp → Bool
+is_logical BinaryOp.Or = true
+is_logical BinaryOp.And = true
+is_logical BinaryOp.BitOr = false
+is_logical BinaryOp.BitXor = false
+is_logical BinaryOp.BitAnd = false
+is_logical BinaryOp.Eq = false
+is_logical BinaryOp.NotEq = false
+is_logical BinaryOp.Lt = false
+is_logical BinaryOp.Le = false
+is_logical BinaryOp.Gt = false
+is_logical BinaryOp.Ge = false
+is_logical BinaryOp.Shl = false
+is_logical BinaryOp.Shr = false
+is_logical BinaryOp.Add = false
+is_logical BinaryOp.Sub = false
+is_logical BinaryOp.Mul = false
+is_logical BinaryOp.Div = false
+is_logical BinaryOp.Rem = false
+
 -- the logical pair, Or and And, has no meaning here
 abbrev pub has_meaning : Instr → Bool
 has_meaning (Instr.Copy d x) = is_meant x
 has_meaning (Instr.Unary d op x) = is_meant x
-has_meaning (Instr.Binary d op x y) = leb 2 op && (is_meant x && is_meant y)
+has_meaning (Instr.Binary d op x y) = not (is_logical op) && (is_meant x && is_meant y)
 has_meaning (Instr.Cast d x) = is_meant x
 has_meaning (Instr.Zero d) = true
 has_meaning (Instr.Call d symbol count) = false

@@ -2,38 +2,24 @@
 #![tactic(auto)]
 
 ghost use Rattle.std.specs.Prelude.{◌≡◌, ◌+◌, ◌*◌, ◌≤◌, length};
-ghost use Rattle.cells.specs.Cells.{cells, write};
-ghost use Rattle.ir.specs.Function.{var_at, operand_at};
+ghost use Rattle.cells.specs.Cells.{write};
+ghost use Rattle.ir.specs.Answers.{says};
+ghost use Rattle.ir.specs.Lines.{dest_of, left_of, right_of};
 ghost use Rattle.x86.specs.Registers.{RCX};
 ghost use Rattle.x86.specs.Records.{list_bytes};
 ghost use Rattle.codegen.specs.Arithmetic.{simple_operation, float_operation, two_loads, sign_into, dividing, division, multiplication, shift};
-ghost use Rattle.utils.specs.Answers.{operand_says, lent};
+ghost use Rattle.utils.specs.Answers.{held};
 ghost use Rattle.utils.specs.Makes.{Makes, Ready};
-ghost use Rattle.operations.specs.Loads.{sides_say, right_of, look_sides, one_load_of, middle_of, middle_count, two_loads_of};
+ghost use Rattle.operations.specs.Loads.{look_sides, one_load, one_load_of, middle_of, middle_count, two_loads_of};
 
-use ir::read::type_at;
-use records::{put_complex_binary, put_instruction, put_shift, put_unary};
-use utils::{
-    CountResult, OperandResult, SizeResult, convert_operand_at, convert_var_at, mov, put_load,
-    source_at, var_size_at,
-};
+use cells::refusals::Refusal;
+use ir::lines::Line;
+use records::put_instruction;
+use utils::context::Context;
+use utils::slots::{Sides, Slot};
+use utils::{convert_operand, convert_var, mov, put_load, source, var_size};
 use x86::enums::{BinOp, ComplexBinOp, Instruction, Operand, ShiftOp, Size, UnaryOp};
 use x86::register::Register;
-
-// The look-ups find left's source, right, dest's slot and dest's size.
-#[derive(Clone, Copy)]
-pub struct Sides {
-    pub left: Operand,
-    pub right: Operand,
-    pub var: Operand,
-    pub size: Size,
-}
-
-#[derive(Clone, Copy)]
-pub enum SidesResult {
-    Are(Sides),
-    Refused(u64),
-}
 
 // What is made of RAX and RCX between two loads and the store; of a division it is said whether it is unsigned.
 #[derive(Clone, Copy)]
@@ -43,61 +29,45 @@ pub enum Middle {
     Divide(bool),
 }
 
-// Right is found as its source where it is loaded too, or else as an operand of the operation itself.
-fn right_at(tables: &[u8], offsets: &[u64], s: &[u8], k: usize, loaded: bool) -> OperandResult
-    requires { k + 4 ≤ cells s.now }
-    ensures { operand_says result ≡ right_of loaded (lent tables.now offsets.now) (operand_at s.now k) }
+// Right's look-up is the caller's, since right is loaded too, or is an operand of the operation itself. Its refusal counts behind left's.
+fn look_sides(
+    context: &Context,
+    line: &Line,
+    right: Result<Operand, Refusal>,
+) -> Result<Sides, Refusal>
+    ensures { says result ≡ look_sides (held context.now) (dest_of line.now) (left_of line.now) (says right) }
 {
-    if loaded {
-        source_at(tables, offsets, s, k)
-    } else {
-        convert_operand_at(tables, offsets, s, k)
-    }
+    let size = var_size(line.dest())?;
+    let left = source(context, line.left())?;
+    let right = right?;
+    let var = convert_var(context, line.dest())?;
+    Ok(Sides {
+        left,
+        right,
+        dest: Slot { var, size },
+    })
 }
 
-fn look_sides(tables: &[u8], offsets: &[u64], s: &[u8], k: usize, loaded: bool) -> SidesResult
-    requires { k + 13 ≤ cells s.now }
-    ensures { sides_say result ≡ look_sides loaded (lent tables.now offsets.now) (var_at s.now (k + 2)) (operand_at s.now (k + 5)) (operand_at s.now (k + 9)) }
-{
-    let size = match var_size_at(s, k + 2) {
-        SizeResult::Is(size) => size,
-        SizeResult::Refused(n) => return SidesResult::Refused(n),
-    };
-    let x = match source_at(tables, offsets, s, k + 5) {
-        OperandResult::Is(x) => x,
-        OperandResult::Refused(n) => return SidesResult::Refused(n),
-    };
-    let y = match right_at(tables, offsets, s, k + 9, loaded) {
-        OperandResult::Is(y) => y,
-        OperandResult::Refused(n) => return SidesResult::Refused(n),
-    };
-    match convert_var_at(tables, offsets, s, k + 2) {
-        OperandResult::Is(var) => SidesResult::Are(Sides {
-            left: x,
-            right: y,
-            var,
-            size,
-        }),
-        OperandResult::Refused(n) => SidesResult::Refused(n),
-    }
-}
-
-fn put_one_load(out: &mut [u8], at: usize, t: Sides, reg: Register, op: BinOp, store: BinOp)
+fn put_one_load(
+    out: &mut [u8],
+    at: usize,
+    sides: Sides,
+    register: Register,
+    op: BinOp,
+    store: BinOp,
+)
     requires { at + 192 ≤ length out.old }
-    ensures { out.new ≡ write out.old at (list_bytes (one_load_of reg op store t)) }
+    ensures { out.new ≡ write out.old at (list_bytes (one_load_of register op store sides)) }
 {
-    let left = t.left;
-    let right = t.right;
-    let var = t.var;
-    let size = t.size;
-    put_load(out, at, reg, left, size);
+    let size = sides.dest.size;
+    put_load(out, at, register, sides.left, size);
     put_instruction(
         out,
         at + 64,
         Instruction::Binary {
             op,
-            dst: Operand::Reg(reg),
-            src: right,
+            dst: Operand::Reg(register),
+            src: sides.right,
             size,
         },
     );
@@ -106,63 +76,73 @@ fn put_one_load(out: &mut [u8], at: usize, t: Sides, reg: Register, op: BinOp, s
         at + 128,
         Instruction::Binary {
             op: store,
-            dst: var,
-            src: Operand::Reg(reg),
+            dst: sides.dest.var,
+            src: Operand::Reg(register),
             size,
         },
     );
 }
 
+// Left is loaded into a register, the operation is done on that and right, and the register is stored to dest.
+fn one_load(
+    context: &Context,
+    line: &Line,
+    register: Register,
+    op: BinOp,
+    store: BinOp,
+    out: &mut [u8],
+    at: usize,
+    write: bool,
+) -> Result<u64, Refusal>
+    requires { Ready write (one_load (held context.now) (dest_of line.now) (left_of line.now) (right_of line.now) register op store) at (length out.old) }
+    ensures { Makes write (one_load (held context.now) (dest_of line.now) (left_of line.now) (right_of line.now) register op store) at out.old out.new result }
+{
+    let sides = look_sides(context, line, convert_operand(context, line.right()))?;
+    if write {
+        put_one_load(out, at, sides, register, op, store);
+    }
+    Ok(3)
+}
+
 // It makes `mov rax, left ; op rax, right ; mov [dest], rax`.
+#[tactic(auto, unfolding(codegen::specs::Arithmetic::simple_operation))]
 pub fn simple_operation(
-    tables: &[u8],
-    offsets: &[u64],
-    s: &[u8],
-    k: usize,
+    context: &Context,
+    line: &Line,
     op: BinOp,
     out: &mut [u8],
     at: usize,
     write: bool,
-) -> CountResult
-    requires k_bound { k + 13 ≤ cells s.now }
-    requires ready { Ready write (simple_operation (lent tables.now offsets.now) (var_at s.now (k + 2)) (operand_at s.now (k + 5)) (operand_at s.now (k + 9)) op) at (length out.old) }
-    ensures { Makes write (simple_operation (lent tables.now offsets.now) (var_at s.now (k + 2)) (operand_at s.now (k + 5)) (operand_at s.now (k + 9)) op) at out.old out.new result }
+) -> Result<u64, Refusal>
+    requires { Ready write (simple_operation (held context.now) (dest_of line.now) (left_of line.now) (right_of line.now) op) at (length out.old) }
+    ensures { Makes write (simple_operation (held context.now) (dest_of line.now) (left_of line.now) (right_of line.now) op) at out.old out.new result }
 {
-    match look_sides(tables, offsets, s, k, false) {
-        SidesResult::Are(t) => {
-            if write {
-                put_one_load(out, at, t, Register::RAX, op, BinOp::Mov);
-            }
-            CountResult::Records(3)
-        }
-        SidesResult::Refused(n) => CountResult::Refused(n),
-    }
+    one_load(context, line, Register::RAX, op, BinOp::Mov, out, at, write)
 }
 
 // It makes `movsd xmm0, left ; op xmm0, right ; movsd [dest], xmm0`.
+#[tactic(auto, unfolding(codegen::specs::Arithmetic::float_operation))]
 pub fn float_operation(
-    tables: &[u8],
-    offsets: &[u64],
-    s: &[u8],
-    k: usize,
+    context: &Context,
+    line: &Line,
     op: BinOp,
     out: &mut [u8],
     at: usize,
     write: bool,
-) -> CountResult
-    requires k_bound { k + 13 ≤ cells s.now }
-    requires ready { Ready write (float_operation (lent tables.now offsets.now) (var_at s.now (k + 2)) (operand_at s.now (k + 5)) (operand_at s.now (k + 9)) op) at (length out.old) }
-    ensures { Makes write (float_operation (lent tables.now offsets.now) (var_at s.now (k + 2)) (operand_at s.now (k + 5)) (operand_at s.now (k + 9)) op) at out.old out.new result }
+) -> Result<u64, Refusal>
+    requires { Ready write (float_operation (held context.now) (dest_of line.now) (left_of line.now) (right_of line.now) op) at (length out.old) }
+    ensures { Makes write (float_operation (held context.now) (dest_of line.now) (left_of line.now) (right_of line.now) op) at out.old out.new result }
 {
-    match look_sides(tables, offsets, s, k, false) {
-        SidesResult::Are(t) => {
-            if write {
-                put_one_load(out, at, t, Register::XMM0, op, BinOp::StoreF);
-            }
-            CountResult::Records(3)
-        }
-        SidesResult::Refused(n) => CountResult::Refused(n),
-    }
+    one_load(
+        context,
+        line,
+        Register::XMM0,
+        op,
+        BinOp::StoreF,
+        out,
+        at,
+        write,
+    )
 }
 
 // RAX's sign goes into RDX by Cdq for four bytes, else by Cqo.
@@ -170,11 +150,8 @@ fn sign_into(size: Size) -> UnaryOp
     ensures { result ≡ sign_into size }
 {
     match size {
-        Size::NoSize => UnaryOp::Cqo,
-        Size::U8 => UnaryOp::Cqo,
-        Size::U16 => UnaryOp::Cqo,
         Size::U32 => UnaryOp::Cdq,
-        Size::U64 => UnaryOp::Cqo,
+        Size::NoSize | Size::U8 | Size::U16 | Size::U64 => UnaryOp::Cqo,
     }
 }
 
@@ -207,9 +184,9 @@ fn put_dividing(out: &mut [u8], at: usize, unsigned: bool, size: Size)
                 size,
             },
         );
-        put_complex_binary(out, at + 64, divide(ComplexBinOp::Div, size));
+        put_instruction(out, at + 64, divide(ComplexBinOp::Div, size));
     } else {
-        put_unary(
+        put_instruction(
             out,
             at,
             Instruction::Unary {
@@ -218,137 +195,124 @@ fn put_dividing(out: &mut [u8], at: usize, unsigned: bool, size: Size)
                 size,
             },
         );
-        put_complex_binary(out, at + 64, divide(ComplexBinOp::Idiv, size));
+        put_instruction(out, at + 64, divide(ComplexBinOp::Idiv, size));
     }
 }
 
-fn middle_records(middle: Middle) -> usize
-    ensures { result ≡ middle_count middle }
-{
-    match middle {
-        Middle::Multiply => 1,
-        Middle::Shift(_) => 1,
-        Middle::Divide(_) => 2,
+impl Middle {
+    fn records(self) -> usize
+        ensures { result ≡ middle_count self }
+    {
+        match self {
+            Middle::Multiply | Middle::Shift(_) => 1,
+            Middle::Divide(_) => 2,
+        }
     }
-}
 
-fn put_middle(out: &mut [u8], at: usize, middle: Middle, size: Size)
-    requires { at + 64 * middle_count middle ≤ length out.old }
-    ensures { out.new ≡ write out.old at (list_bytes (middle_of middle size)) }
-{
-    let dst = Operand::Reg(Register::RAX);
-    let src = Operand::Reg(Register::RCX);
-    match middle {
-        Middle::Multiply => put_complex_binary(
-            out,
-            at,
-            Instruction::ComplexBinary {
-                op: ComplexBinOp::Imul,
-                dst,
-                src,
-                size,
-            },
-        ),
-        Middle::Shift(op) => put_shift(out, at, Instruction::Shift { op, dst, src, size }),
-        Middle::Divide(unsigned) => put_dividing(out, at, unsigned, size),
+    fn put(self, out: &mut [u8], at: usize, size: Size)
+        requires { at + 64 * middle_count self ≤ length out.old }
+        ensures { out.new ≡ write out.old at (list_bytes (middle_of self size)) }
+    {
+        let dst = Operand::Reg(Register::RAX);
+        let src = Operand::Reg(Register::RCX);
+        match self {
+            Middle::Multiply => put_instruction(
+                out,
+                at,
+                Instruction::ComplexBinary {
+                    op: ComplexBinOp::Imul,
+                    dst,
+                    src,
+                    size,
+                },
+            ),
+            Middle::Shift(op) => put_instruction(out, at, Instruction::Shift { op, dst, src, size }),
+            Middle::Divide(unsigned) => put_dividing(out, at, unsigned, size),
+        }
     }
 }
 
 // Left goes into RAX and right into RCX; behind the operation a register is stored to dest.
-fn put_two_loads(out: &mut [u8], at: usize, t: Sides, middle: Middle, res: Register)
+fn put_two_loads(out: &mut [u8], at: usize, sides: Sides, middle: Middle, outcome: Register)
     requires { at + 64 * (middle_count middle + 3) ≤ length out.old }
-    ensures { out.new ≡ write out.old at (list_bytes (two_loads_of (middle_of middle) res t)) }
+    ensures { out.new ≡ write out.old at (list_bytes (two_loads_of (middle_of middle) outcome sides)) }
 {
-    let left = t.left;
-    let right = t.right;
-    let var = t.var;
-    let size = t.size;
-    let behind = 128 + 64 * middle_records(middle);
-    put_load(out, at, Register::RAX, left, size);
-    put_load(out, at + 64, Register::RCX, right, size);
-    put_middle(out, at + 128, middle, size);
-    put_instruction(out, at + behind, mov(var, Operand::Reg(res), size));
+    let size = sides.dest.size;
+    let behind = 128 + 64 * middle.records();
+    put_load(out, at, Register::RAX, sides.left, size);
+    put_load(out, at + 64, Register::RCX, sides.right, size);
+    middle.put(out, at + 128, size);
+    put_instruction(
+        out,
+        at + behind,
+        mov(sides.dest.var, Operand::Reg(outcome), size),
+    );
 }
 
 fn two_loads(
-    tables: &[u8],
-    offsets: &[u64],
-    s: &[u8],
-    k: usize,
+    context: &Context,
+    line: &Line,
     middle: Middle,
-    res: Register,
+    outcome: Register,
     out: &mut [u8],
     at: usize,
     write: bool,
-) -> CountResult
-    requires k_bound { k + 13 ≤ cells s.now }
-    requires ready { Ready write (two_loads (lent tables.now offsets.now) (var_at s.now (k + 2)) (operand_at s.now (k + 5)) (operand_at s.now (k + 9)) (middle_of middle) res) at (length out.old) }
-    ensures { Makes write (two_loads (lent tables.now offsets.now) (var_at s.now (k + 2)) (operand_at s.now (k + 5)) (operand_at s.now (k + 9)) (middle_of middle) res) at out.old out.new result }
+) -> Result<u64, Refusal>
+    requires { Ready write (two_loads (held context.now) (dest_of line.now) (left_of line.now) (right_of line.now) (middle_of middle) outcome) at (length out.old) }
+    ensures { Makes write (two_loads (held context.now) (dest_of line.now) (left_of line.now) (right_of line.now) (middle_of middle) outcome) at out.old out.new result }
 {
-    match look_sides(tables, offsets, s, k, true) {
-        SidesResult::Are(t) => {
-            let count = middle_records(middle) as u64 + 3;
-            if write {
-                put_two_loads(out, at, t, middle, res);
-            }
-            CountResult::Records(count)
-        }
-        SidesResult::Refused(n) => CountResult::Refused(n),
+    let sides = look_sides(context, line, source(context, line.right()))?;
+    if write {
+        put_two_loads(out, at, sides, middle, outcome);
     }
+    Ok(middle.records() as u64 + 3)
 }
 
 // The quotient comes in RAX, the remainder in RDX.
+#[tactic(auto, unfolding(codegen::specs::Arithmetic::division))]
 pub fn division(
-    tables: &[u8],
-    offsets: &[u64],
-    s: &[u8],
-    k: usize,
-    res: Register,
+    context: &Context,
+    line: &Line,
+    outcome: Register,
     out: &mut [u8],
     at: usize,
     write: bool,
-) -> CountResult
-    requires k_bound { k + 13 ≤ cells s.now }
-    requires ready { Ready write (division (lent tables.now offsets.now) (var_at s.now (k + 2)) (operand_at s.now (k + 5)) (operand_at s.now (k + 9)) res) at (length out.old) }
-    ensures { Makes write (division (lent tables.now offsets.now) (var_at s.now (k + 2)) (operand_at s.now (k + 5)) (operand_at s.now (k + 9)) res) at out.old out.new result }
+) -> Result<u64, Refusal>
+    requires { Ready write (division (held context.now) (dest_of line.now) (left_of line.now) (right_of line.now) outcome) at (length out.old) }
+    ensures { Makes write (division (held context.now) (dest_of line.now) (left_of line.now) (right_of line.now) outcome) at out.old out.new result }
 {
-    let ty = type_at(s, k + 3);
-    let middle = Middle::Divide(ty.is_unsigned());
-    two_loads(tables, offsets, s, k, middle, res, out, at, write)
+    let middle = Middle::Divide(line.dest().ty.is_unsigned());
+    two_loads(context, line, middle, outcome, out, at, write)
 }
 
+#[tactic(auto, unfolding(codegen::specs::Arithmetic::multiplication))]
 pub fn multiplication(
-    tables: &[u8],
-    offsets: &[u64],
-    s: &[u8],
-    k: usize,
+    context: &Context,
+    line: &Line,
     out: &mut [u8],
     at: usize,
     write: bool,
-) -> CountResult
-    requires k_bound { k + 13 ≤ cells s.now }
-    requires ready { Ready write (multiplication (lent tables.now offsets.now) (var_at s.now (k + 2)) (operand_at s.now (k + 5)) (operand_at s.now (k + 9))) at (length out.old) }
-    ensures { Makes write (multiplication (lent tables.now offsets.now) (var_at s.now (k + 2)) (operand_at s.now (k + 5)) (operand_at s.now (k + 9))) at out.old out.new result }
+) -> Result<u64, Refusal>
+    requires { Ready write (multiplication (held context.now) (dest_of line.now) (left_of line.now) (right_of line.now)) at (length out.old) }
+    ensures { Makes write (multiplication (held context.now) (dest_of line.now) (left_of line.now) (right_of line.now)) at out.old out.new result }
 {
     let middle = Middle::Multiply;
-    two_loads(tables, offsets, s, k, middle, Register::RAX, out, at, write)
+    two_loads(context, line, middle, Register::RAX, out, at, write)
 }
 
 // The count goes through RCX.
+#[tactic(auto, unfolding(codegen::specs::Arithmetic::shift))]
 pub fn shift(
-    tables: &[u8],
-    offsets: &[u64],
-    s: &[u8],
-    k: usize,
+    context: &Context,
+    line: &Line,
     op: ShiftOp,
     out: &mut [u8],
     at: usize,
     write: bool,
-) -> CountResult
-    requires k_bound { k + 13 ≤ cells s.now }
-    requires ready { Ready write (shift (lent tables.now offsets.now) (var_at s.now (k + 2)) (operand_at s.now (k + 5)) (operand_at s.now (k + 9)) op) at (length out.old) }
-    ensures { Makes write (shift (lent tables.now offsets.now) (var_at s.now (k + 2)) (operand_at s.now (k + 5)) (operand_at s.now (k + 9)) op) at out.old out.new result }
+) -> Result<u64, Refusal>
+    requires { Ready write (shift (held context.now) (dest_of line.now) (left_of line.now) (right_of line.now) op) at (length out.old) }
+    ensures { Makes write (shift (held context.now) (dest_of line.now) (left_of line.now) (right_of line.now) op) at out.old out.new result }
 {
     let middle = Middle::Shift(op);
-    two_loads(tables, offsets, s, k, middle, Register::RAX, out, at, write)
+    two_loads(context, line, middle, Register::RAX, out, at, write)
 }

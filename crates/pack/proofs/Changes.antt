@@ -12,13 +12,16 @@ use lib.ListN.{length, get_or, take, drop, take-append-drop, length-drop, length
 use lib.Seq.{take-append-le, drop-append-le, drop-drop, drop_at, take_at, get_or-take, length-take-le}
 use Rattle.cells.specs.Cells.{cells, half, word, cell_at, largest, read_cell, read_within, keep_within, bind_cell, write}
 use Rattle.cells.specs.declared.Cursor.{Cursor}
-use Rattle.cells.specs.declared.Cell.{Cell}
-use Rattle.cells.specs.Refusals.{no_entry, bad_pack}
+use Rattle.cells.specs.Cells.{Cell, wrong}
+use Rattle.cells.specs.Refusals.{no_entry}
 use Rattle.cells.proofs.Bytes.{write_length}
 use Rattle.layout.specs.Limits.{most_sheets}
-use Rattle.layout.specs.declared.Checked.{Checked}
+use Rattle.std.specs.Prelude.{Ok}
+use Rattle.cells.specs.declared.refusals.Refusal.{Refusal}
+use Rattle.layout.specs.Layout.{Checked, refuse}
 use Rattle.layout.specs.Layout.{cursor, end_check}
 use Rattle.codegen.specs.Generation.{accepted, refused}
+use Rattle.pack.proofs.Turns.{turn}
 use Rattle.pack.specs.Pack.{pairs_check, sheets_from, pack_check, sheet_count, offset_at, length_at, part_at, sheet_at, packed, look_up, lowered_in}
 use Rattle.pack.specs.Changes.{changed, OthersStay}
 use Rattle.pack.proofs.LookUps.{looked_up}
@@ -75,14 +78,14 @@ module _ (s bs : List ℕ) (at : ℕ) (fits : at + length bs ≤ length s) where
 
 -- what follows a cell, where two ways agree on it
 bind_same : (p : List ℕ) (c : Cursor) (low high : ℕ) (f g : ℕ → Cursor → Checked) → f (cell_at p c.at) (cursor (c.at + 1)) ≡ g (cell_at p c.at) (cursor (c.at + 1)) →
-    bind_cell (Checked.Refused bad_pack) (read_within p c low high) f ≡ bind_cell (Checked.Refused bad_pack) (read_within p c low high) g
+    bind_cell (refuse Refusal.BadPack) (read_within p c low high) f ≡ bind_cell (refuse Refusal.BadPack) (read_within p c low high) g
 unfolding read_within read_cell
 bind_same p c low high f g h = go (ltb c.at (cells p)) (ltb (cell_at p c.at) low) (ltb high (cell_at p c.at)) refl refl
   where
     read : Bool → Cell
-    read a = keep_within c.at low high (cond a (Cell.Word (cell_at p c.at) (cursor (c.at + 1))) (Cell.Wrong c.at))
+    read a = keep_within c.at low high (cond a (Ok (cell_at p c.at, cursor (c.at + 1))) (wrong c.at))
 
-    go : (a b e : Bool) → ltb (cell_at p c.at) low ≡ b → ltb high (cell_at p c.at) ≡ e → bind_cell (Checked.Refused bad_pack) (read a) f ≡ bind_cell (Checked.Refused bad_pack) (read a) g
+    go : (a b e : Bool) → ltb (cell_at p c.at) low ≡ b → ltb high (cell_at p c.at) ≡ e → bind_cell (refuse Refusal.BadPack) (read a) f ≡ bind_cell (refuse Refusal.BadPack) (read a) g
     go false b e q r = refl
     go true true e q r = rw q refl
     go true false true q r = rw (q, r) refl
@@ -97,9 +100,9 @@ module _ (p q : List ℕ) (most : ℕ) (long : length q ≡ length p) (same : (k
   unfolding pairs_check end_check
   pairs_same zero from c l = rw long
   pairs_same (suc n) from c l =
-      rw (read_same c from from (omega arith)) (bind_same p c from from _ _
+      rw (turn q n from c, turn p n from c) (rw (read_same c from from (omega arith)) (bind_same p c from from _ _
       (rw (read_same (cursor (c.at + 1)) 0 largest (omega arith)) (bind_same p (cursor (c.at + 1)) 0 largest _ _
-      (rw (long, pairs_same n (from + cell_at p (c.at + 1)) (cursor (c.at + 1 + 1)) (omega arith))))))
+      (rw (long, pairs_same n (from + cell_at p (c.at + 1)) (cursor (c.at + 1 + 1)) (omega arith)))))))
 
   pub pack_same : sheets_from (sheet_count p) ≤ most → pack_check q ≡ pack_check p
   unfolding pack_check
@@ -111,7 +114,7 @@ module _ (p q : List ℕ) (most : ℕ) (long : length q ≡ length p) (same : (k
 later : {k i : ℕ} → i ≤ k → (k ≡ i → ⊥) → i < k
 later {k} {i} l other = ⊎_elim (λ (e : i ≡ k). absurd (other (sym e))) (λ (g : i < k). g) (eq-or-lt_of_le l)
 
-module _ (p : List ℕ) {d : Cursor} (good : pack_check p ≡ Checked.Behind d) (i : ℕ) (here : i < sheet_count p) (bytes : List ℕ) (long : length bytes ≡ length_at p i * 8) where
+module _ (p : List ℕ) {d : Cursor} (good : pack_check p ≡ Ok d) (i : ℕ) (here : i < sheet_count p) (bytes : List ℕ) (long : length bytes ≡ length_at p i * 8) where
   stands : Stands p (sheets_from (sheet_count p)) i
   stands = sheet_stands p good i here
 

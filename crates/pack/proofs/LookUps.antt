@@ -11,7 +11,10 @@ use Rattle.cells.specs.Cells.{cells}
 use Rattle.cells.specs.declared.Cursor.{Cursor}
 use Rattle.cells.specs.Refusals.{no_entry}
 use Rattle.cells.specs.Outcomes.{number_of, place_of}
-use Rattle.layout.specs.declared.Checked.{Checked}
+use Rattle.std.specs.Prelude.{Ok, Err}
+use Rattle.cells.specs.declared.refusals.Refused.{Refused}
+use Rattle.cells.specs.Refusals.{number_of_refusal}
+use Rattle.layout.specs.Layout.{Checked}
 use Rattle.codegen.specs.Generation.{accepted, refused, ◌>>=◌, checked}
 use Rattle.pack.specs.declared.Pair.{Pair}
 use Rattle.pack.specs.Pack.{pack_check, Checks, sheet_count, pair_at, part_at, sheet_at, packed, find_pair, look_up, part_of, start_of, moved}
@@ -25,12 +28,12 @@ looked_up p k = go (pack_check p) (ltb k (sheet_count p))
   where
     go : (x : Checked) (b : Bool) →
         (checked x (λ u. cond b (accepted (pair_at p k)) (refused no_entry 0)) >>= λ pair. accepted (part_at p pair)) ≡ checked x (λ u. cond b (accepted (sheet_at p k)) (refused no_entry 0))
-    go (Checked.Behind c) true = refl
-    go (Checked.Behind c) false = refl
-    go (Checked.Refused n j) b = refl
+    go (Ok c) true = refl
+    go (Ok c) false = refl
+    go (Err r) b = refl
 
 -- a good pack; `count` is its sheet count as it was read
-module _ (p : List ℕ) {d : Cursor} (good : pack_check p ≡ Checked.Behind d) where
+module _ (p : List ℕ) {d : Cursor} (good : pack_check p ≡ Ok d) where
   pub count_there : 0 < cells p
   count_there = omega (arith, (pack_right p good).0, (sheet_stands p good 0 (pack_right p good).0).there)
 
@@ -46,7 +49,7 @@ module _ (p : List ℕ) {d : Cursor} (good : pack_check p ≡ Checked.Behind d) 
     unfolding find_pair
     no_entry_lem l = rw (good, le-ltb k (sheet_count p) (omega arith))
 
-pub bad_pack_lem : (p : List ℕ) (k : ℕ) {n j : ℕ} → pack_check p ≡ Checked.Refused n j → refused n j ≡ find_pair p k
+pub bad_pack_lem : (p : List ℕ) (k : ℕ) {r : Refused} → pack_check p ≡ Err r → refused (number_of_refusal r.refusal) r.place ≡ find_pair p k
 unfolding find_pair
 bad_pack_lem p k e = rw e
 
@@ -63,9 +66,9 @@ module _ (p : List ℕ) (k : ℕ) where
     where
       go : (x : Checked) (b : Bool) → pack_check p ≡ x → ltb k (sheet_count p) ≡ b → accepted pair ≡ checked x (λ u. cond b (accepted (pair_at p k)) (refused no_entry 0)) →
           (pair.offset + pair.length) * 8 ≤ length p
-      go (Checked.Refused n j) b f g e = absurd (never e)
-      go (Checked.Behind d) false f g e = absurd (never e)
-      go (Checked.Behind d) true f g e =
+      go (Err r) b f g e = absurd (never e)
+      go (Ok d) false f g e = absurd (never e)
+      go (Ok d) true f g e =
           let w : pair ≡ pair_at p k = cc in
           rw w ((tiles p f).inside k (ltb-true k (sheet_count p) g)).1
 

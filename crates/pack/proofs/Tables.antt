@@ -14,7 +14,8 @@ use Rattle.ir.specs.declared.Instr.{Instr}
 use Rattle.ir.specs.Types.{Result, ok, refused, ◌>>=◌, type_size, is_float}
 use Rattle.ir.specs.Function.{Tables, Line, Function, tables_of, function_of}
 use Rattle.cells.specs.declared.Cursor.{Cursor}
-use Rattle.layout.specs.declared.Checked.{Checked}
+use Rattle.std.specs.Prelude.{Ok, Err}
+use Rattle.layout.specs.Layout.{Checked}
 use Rattle.layout.specs.Layout.{tables_check, sheet_check}
 use Rattle.layout.proofs.Passed.{apart}
 use Rattle.x86.specs.declared.register.Register.{Register}
@@ -280,11 +281,11 @@ tables_apart T U F e =
 -- ---- the answer to a call
 
 -- behind tables that are good
-behind_tables : (t s : List ℕ) {end : Cursor} → tables_check t ≡ Checked.Behind end → compiled t s ≡ checked (sheet_check s) (λ u. generate (tables_of t) (function_of s))
+behind_tables : (t s : List ℕ) {end : Cursor} → tables_check t ≡ Ok end → compiled t s ≡ checked (sheet_check s) (λ u. generate (tables_of t) (function_of s))
 unfolding compiled
 behind_tables t s e = rw e
 
-module _ (t t' : List ℕ) {end end' : Cursor} (good : tables_check t ≡ Checked.Behind end) (good' : tables_check t' ≡ Checked.Behind end') where
+module _ (t t' : List ℕ) {end end' : Cursor} (good : tables_check t ≡ Ok end) (good' : tables_check t' ≡ Ok end') where
   list_stays : (s : List ℕ) (m : ℕ) → names_any s ≡ false → lowered t s m ≡ lowered t' s m
   unfolding lowered
   list_stays s m e =
@@ -299,9 +300,9 @@ module _ (t t' : List ℕ) {end end' : Cursor} (good : tables_check t ≡ Checke
       go : (x : Checked) (b : Bool) →
           outcomes.◌>>=◌ (checked x (λ u. cond b (accepted (sheet_at p k)) (outcomes.refused no_entry 0))) (λ s. lowered t s m)
           ≡ outcomes.◌>>=◌ (checked x (λ u. cond b (accepted (sheet_at p k)) (outcomes.refused no_entry 0))) (λ s. lowered t' s m)
-      go (Checked.Behind c) true = list_stays (sheet_at p k) m e
-      go (Checked.Behind c) false = refl
-      go (Checked.Refused n j) b = refl
+      go (Ok c) true = list_stays (sheet_at p k) m e
+      go (Ok c) false = refl
+      go (Err r) b = refl
 
 pub tables_exchanged : TablesExchanged
 tables_exchanged t t' end end' g h = (list_stays t t' g h, list_stays_in t t' g h)

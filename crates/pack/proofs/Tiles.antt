@@ -11,7 +11,7 @@ use lib.ListN.{length, take, drop, take-append-drop, drop_of_length-le}
 use lib.Seq.{drop-drop}
 use Rattle.cells.specs.Cells.{cells, largest}
 use Rattle.cells.specs.declared.Cursor.{Cursor}
-use Rattle.layout.specs.declared.Checked.{Checked}
+use Rattle.std.specs.Prelude.{Ok}
 use Rattle.layout.specs.Layout.{cursor}
 use Rattle.pack.specs.Pack.{sheets_from, pack_check, sheet_count, offset_at, length_at, part_at, sheets_at}
 use Rattle.pack.specs.Changes.{Good, Tiles}
@@ -78,7 +78,7 @@ module _ (p : List ℕ) where
 
 -- ---- a good pack
 
-module _ (p : List ℕ) {d : Cursor} (good : pack_check p ≡ Checked.Behind d) where
+module _ (p : List ℕ) {d : Cursor} (good : pack_check p ≡ Ok d) where
   pub sheet_stands : (k : ℕ) → k < sheet_count p → Stands p (sheets_from (sheet_count p)) k
   sheet_stands k l = stands p (pack_right p good).2 k (omega arith) (omega arith)
 
@@ -124,7 +124,7 @@ module _ (p : List ℕ) (laid : Good p) where
       let w = laid.next k (omega arith) in
       pair {k = k} (omega (arith, ahead)) refl (laid.counts k (omega arith)) (omega (arith, below n (suc k) (omega arith))) (rw w at (pairs n (suc k) (omega arith)))
 
-  pub laid_good : pack_check p ≡ Checked.Behind (cursor (cells p))
+  pub laid_good : pack_check p ≡ Ok (cursor (cells p))
   laid_good =
       let e : suc (sheet_count p - 1) ≡ sheet_count p = omega (arith, laid.some) in
       let f : Pairs p (sheet_count p) (sheets_from (sheet_count p)) 0 = rw (e, laid.first) at (pairs (sheet_count p - 1) 0 (omega arith)) in

@@ -5,7 +5,7 @@ use mathlib.Core.List.{List, ◌++◌, flatten}
 use Rattle.cells.specs.Cells.{largest, write}
 use Rattle.cells.specs.declared.Cursor.{Cursor}
 use Rattle.layout.specs.Limits.{most_sheets}
-use Rattle.layout.specs.declared.Checked.{Checked}
+use Rattle.std.specs.Prelude.{Ok}
 use Rattle.layout.specs.Layout.{tables_check}
 use Rattle.codegen.specs.Generation.{accepted, lowered}
 use Rattle.pack.specs.Pack.{sheets_from, Checks, sheet_count, offset_at, length_at, sheet_at, sheets_of, look_up, lowered_in}
@@ -44,6 +44,6 @@ OthersStay = (p : List ℕ) → Checks p → (i : ℕ) → i < sheet_count p →
 -- "exchanging good tables for other good ones leaves the list of every sheet that names no string or float": of a sheet by itself, and of one in a pack
 abbrev pub TablesExchanged : Type 0
 TablesExchanged =
-    (t t' : List ℕ) (end end' : Cursor) → tables_check t ≡ Checked.Behind end → tables_check t' ≡ Checked.Behind end' →
+    (t t' : List ℕ) (end end' : Cursor) → tables_check t ≡ Ok end → tables_check t' ≡ Ok end' →
     ((s : List ℕ) (m : ℕ) → names_any s ≡ false → lowered t s m ≡ lowered t' s m)
     × ((p : List ℕ) (k m : ℕ) → names_any (sheet_at p k) ≡ false → lowered_in t p k m ≡ lowered_in t' p k m)

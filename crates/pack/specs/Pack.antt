@@ -1,39 +1,47 @@
 -- Believed: a pack (docs/FORMAT.md, "Packs"): a sheet count from 1 to 256, then for each sheet a pair of offset and length in cells, then the sheets. The first offset follows
 -- the last pair, each next one the sheet before, and the last sheet ends the file. Refusal 13 has the first wrong cell in reading order.
-use Rattle.std.specs.Prelude.{ℕ, zero, suc, ◌+◌, ◌*◌, ◌≡◌, List, [], ◌∷◌, cond, take, drop, ltb}
+use Rattle.std.specs.Prelude.{ℕ, zero, suc, ◌+◌, ◌*◌, ◌≡◌, List, [], ◌∷◌, cond, take, drop, ltb, Result, Ok, Err}
 use Rattle.cells.specs.Cells.{cells, cell_at, largest, read_within, bind_cell}
 use Rattle.cells.specs.declared.Cursor.{Cursor}
-use Rattle.cells.specs.Refusals.{no_entry, bad_pack}
+use Rattle.cells.specs.Refusals.{no_entry}
 use Rattle.layout.specs.Limits.{most_sheets}
-use Rattle.layout.specs.declared.Checked.{Checked}
-use Rattle.layout.specs.Layout.{cursor, end_check}
+use Rattle.cells.specs.declared.refusals.Refusal.{Refusal}
+use Rattle.cells.specs.declared.refusals.Refused.{Refused}
+use Rattle.layout.specs.Layout.{Checked, Limited, bind_limited, refuse, cursor, end_check}
 use Rattle.x86.specs.declared.enums.Instruction.{Instruction}
 use Rattle.pack.specs.declared.Pair.{Pair}
-use Rattle.pack.specs.declared.Found.{Found}
 use Rattle.codegen.specs.Generation.{Outcome, accepted, refused, ◌>>=◌, checked, lowered}
 
 -- ---- the layout: refusal 13
 
--- n pairs from the cursor on, whose first sheet stands at cell `from`: an offset is exactly where its sheet must stand; a length is not negative and, with its
--- offset, not above the count of whole cells; behind the last sheet nothing is left
+-- a cell from low to high; any other is refused by 13
+abbrev pub read_in : List ℕ → Cursor → ℕ → ℕ → Limited
+read_in p c low high = bind_cell (refuse Refusal.BadPack) (read_within p c low high) (λ v next. Ok (v, next))
+
+-- a pair at the cursor, whose sheet must stand at cell `from`: the offset is exactly that cell; the length is not negative and, with the offset, not above the
+-- count of whole cells; the cell behind the sheet, and the cursor of the next pair
+unfoldable pub pair_check : List ℕ → ℕ → Cursor → Result (ℕ × Cursor) Refused
+pair_check p from c =
+    bind_cell (refuse Refusal.BadPack) (read_within p c from from) (λ offset c1.
+    bind_cell (refuse Refusal.BadPack) (read_within p c1 0 largest) (λ size c2.
+    cond (ltb (cells p) (from + size)) (refuse Refusal.BadPack c1.at) (Ok (from + size, c2))))
+
+-- n pairs from the cursor on, whose first sheet stands at cell `from`; behind the last sheet nothing is left
 unfoldable pub pairs_check : List ℕ → ℕ → ℕ → Cursor → Checked
-pairs_check p zero from c = end_check bad_pack p (cursor from)
-pairs_check p (suc n) from c =
-    bind_cell (Checked.Refused bad_pack) (read_within p c from from) (λ offset c1.
-    bind_cell (Checked.Refused bad_pack) (read_within p c1 0 largest) (λ size c2.
-    cond (ltb (cells p) (from + size)) (Checked.Refused bad_pack c1.at) (pairs_check p n (from + size) c2)))
+pairs_check p zero from c = end_check Refusal.BadPack p (cursor from)
+pairs_check p (suc n) from c = bind_limited Err (pair_check p from c) (λ behind next. pairs_check p n behind next)
 
 -- the first sheet stands behind the count and the pairs
 abbrev pub sheets_from : ℕ → ℕ
 sheets_from count = 1 + 2 * count
 
 unfoldable pub pack_check : List ℕ → Checked
-pack_check p = bind_cell (Checked.Refused bad_pack) (read_within p (cursor 0) 1 most_sheets) (λ count next. pairs_check p count (sheets_from count) next)
+pack_check p = bind_cell (refuse Refusal.BadPack) (read_within p (cursor 0) 1 most_sheets) (λ count next. pairs_check p count (sheets_from count) next)
 
 -- the layout is right
 pub record Checks (p : List ℕ) : Type 0 where
   pub end : Cursor
-  pub is : pack_check p ≡ Checked.Behind end
+  pub is : pack_check p ≡ Ok end
 
 -- ---- what the cells of a pack mean, where its layout is right
 
@@ -103,8 +111,3 @@ size_of (refused n place) = 0
 -- the answer to the lowering of sheet k of a pack, with its tables beside it and m record bytes: 13, then 5, then the lowering's own refusals
 unfoldable pub lowered_in : List ℕ → List ℕ → ℕ → ℕ → Outcome (List Instruction)
 lowered_in tables p k m = look_up p k >>= λ sheet. lowered tables sheet m
-
--- what the code's answer says
-abbrev pub found_says : Found → Outcome Pair
-found_says (Found.Sheet pair) = accepted pair
-found_says (Found.Refused n place) = refused n place

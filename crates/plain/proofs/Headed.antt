@@ -1,35 +1,23 @@
--- The conditions on the head, one behind the other.
-use Rattle.std.proofs.Common.{◌≡◌, ℕ, Bool, true, false, ◌&&◌, List, sym, refl, ◌∙◌}
-use Rattle.cells.specs.Cells.{cell_at}
-use Rattle.ir.specs.Function.{function_of, types_at, vars_at, type_at, params_from}
-use Rattle.machine.specs.Plain.{every, is_plain_return, are_distinct, is_scalar_var, is_plain_head}
-use Rattle.plain.specs.Parts.{has_plain_code}
+-- What `all` answers over a range is what a recursion answers that takes one number of the range after the other.
+use Rattle.std.proofs.Common.{◌≡◌, ℕ, zero, suc, ◌+◌, Bool, true, false, ◌&&◌, List, MatchOption, sym, ◌∙◌, arith}
+use denote.Param.Members.{Mut}
+use Rattle.std.specs.Fn.{Called}
+use Rattle.std.specs.Iterator.{YieldsThen}
+use Rattle.std.specs.List.{FoldsTo, list_all, range_with_len}
+use Rattle.std.specs.declared.ops.Range.{Range}
+use Rattle.std.proofs.iter.Yields.{nat_range_steps}
+use Rattle.std.proofs.lemmas.Iterator.{YieldsList-from_range}
+use Rattle.std.proofs.lemmas.Iterator.Search.{all_from_yields_List}
 
-module _ (s : List ℕ) where
-  abbrev types : Bool
-  types = every has_plain_code (types_at s (cell_at s 0) 6)
+module _ (test : ℕ → Bool) (whole : ℕ → ℕ → Bool) (b : ℕ) (none : (k : ℕ) → whole 0 k ≡ true)
+    (more : (n k : ℕ) → k + suc n ≡ b → whole (suc n) k ≡ (test k && whole n (k + 1))) where
+  all_turns : (n k : ℕ) → k + n ≡ b → list_all test (range_with_len k n) ≡ whole n k
+  all_turns zero k e = sym (none k)
+  all_turns (suc n) k e = rw (more n k e, all_turns n (k + 1) (omega arith))
 
-  abbrev distinct : Bool
-  distinct = are_distinct (vars_at s (cell_at s 1) (params_from s))
-
-  abbrev scalars : Bool
-  scalars = every (is_scalar_var (function_of s)) (vars_at s (cell_at s 1) (params_from s))
-
-  head_is : is_plain_head (function_of s) ≡ (types && (is_plain_return (type_at s 3) && (distinct && scalars)))
-  unfolding is_plain_head function_of
-  head_is = refl
-
-  pub types_fault : every has_plain_code (types_at s (cell_at s 0) 6) ≡ false → false ≡ is_plain_head (function_of s)
-  types_fault a = sym (head_is ∙ simp a)
-
-  module _ (a : every has_plain_code (types_at s (cell_at s 0) 6) ≡ true) where
-    pub return_fault : is_plain_return (type_at s 3) ≡ false → false ≡ is_plain_head (function_of s)
-    return_fault b = sym (head_is ∙ simp (a, b))
-
-    module _ (b : is_plain_return (type_at s 3) ≡ true) where
-      pub distinct_fault : are_distinct (vars_at s (cell_at s 1) (params_from s)) ≡ false → false ≡ is_plain_head (function_of s)
-      distinct_fault e = sym (head_is ∙ simp (a, b, e))
-
-      pub head_last : are_distinct (vars_at s (cell_at s 1) (params_from s)) ≡ true →
-          every (is_scalar_var (function_of s)) (vars_at s (cell_at s 1) (params_from s)) ≡ is_plain_head (function_of s)
-      head_last e = sym (head_is ∙ simp (a, b, e))
+  pub all_over : {F : Type 0} {g : Mut F (ℕ × Unit {0}) Bool} {s u : Range ℕ} {f : F} {r : Bool} (n a : ℕ) → a + n ≡ b → s ≡ record { start = a; end = b } →
+      (xs : List ℕ) × (o : _) × (j : F) × YieldsThen nat_range_steps s xs o u × FoldsTo (λ p x q. Called g p (x, tt) true q) f xs j
+      × MatchOption o (r ≡ true) (λ x. (r ≡ false) × ((h : F) × Called g j (x, tt) false h)) →
+      ((x : ℕ) (b : Bool) (q : F) → Called g f (x, tt) b q → (q ≡ f) × (b ≡ test x)) → r ≡ whole n a
+  all_over {u = u} {f = f} {r = r} n a l e ran call =
+      all_from_yields_List test u f r ran (YieldsList-from_range a b n e (omega arith)) call ∙ all_turns n a l

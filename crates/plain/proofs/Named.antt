@@ -28,18 +28,11 @@ no_name r = weaken (any r) (λ b t h. omega arith)
 instr_named : (ctx : Context) (labels : ℕ) (ret : IrType) (i : Instr) (args : List Operand) →
     Yields (generate_instr ctx labels ret i args) (λ b. labels ≤ 256 → label_of i < 256)
 unfolding generate_instr generate_label generate_jump generate_jmp_if_not
-instr_named ctx labels ret (Instr.Copy d x) args = no_name _
-instr_named ctx labels ret (Instr.Unary d op x) args = no_name _
-instr_named ctx labels ret (Instr.Binary d op x y) args = no_name _
-instr_named ctx labels ret (Instr.Cast d x) args = no_name _
-instr_named ctx labels ret (Instr.Zero d) args = no_name _
-instr_named ctx labels ret (Instr.Call d symbol count) args = no_name _
 instr_named ctx labels ret (Instr.Label l) args = bind (label_below labels l) (λ k p. yields (λ h. omega arith))
 instr_named ctx labels ret (Instr.Jump l) args = bind (label_below labels l) (λ k p. yields (λ h. omega arith))
 instr_named ctx labels ret (Instr.JumpIfNot x l) args =
     bind (any (load_operand ctx RAX x Size.U8)) (λ load t. bind (label_below labels l) (λ k p. yields (λ h. omega arith)))
-instr_named ctx labels ret (Instr.Return x) args = no_name _
-instr_named ctx labels ret Instr.Comment args = no_name _
+instr_named ctx labels ret _ args = no_name _
 
 first_named : (n : ℕ) (is : List Line) → ((k : ℕ) (l : Line) (r : List Line) → k < n → drop k is ≡ l ∷ r → label_of l.instr < 256) → are_named (take n is) ≡ true
 unfolding are_named every

@@ -1,103 +1,83 @@
 // Variables, parameters and the return type are tested here.
-ghost use Rattle.std.specs.Prelude.{◌≡◌, ◌+◌, ◌*◌, ◌≤◌};
+ghost use Rattle.std.specs.Prelude.{◌≡◌, ◌+◌, ◌-◌, ◌*◌, ◌<◌, ◌≤◌};
 ghost use Rattle.cells.specs.Cells.{cells};
-ghost use Rattle.ir.specs.Function.{function_of, types_at, vars_at, params_from, body_from};
+ghost use Rattle.ir.specs.Function.{function_of, types_at, vars_at, var_at, body_from};
 ghost use Rattle.machine.specs.Plain.{every, is_scalar_var, is_absent, are_distinct, is_plain_head};
 ghost use Rattle.plain.specs.Parts.{has_plain_code};
 
 use crate::vars::{is_plain_code, is_plain_return, is_scalar_var};
 use cells::cell_at;
-use ir::read::{type_at, var_at};
+use ir::VarId;
+use ir::read::{Sheet, type_at, var_at};
 
-// It says whether `n` types from cell `from` on have plain codes.
-fn are_plain_types(sheet: &[u8], n: u64, from: usize) -> bool
-    requires { from + 2 * n ≤ cells sheet.now }
-    ensures { result ≡ every has_plain_code (types_at sheet.now n from) }
+// It says whether the types of all variables have plain codes.
+fn are_plain_types(sheet: &Sheet) -> bool
+    ensures { result ≡ every has_plain_code (function_of sheet.now.bytes.now).vars }
 {
-    let mut left = n;
-    let mut cell = from;
-    while 0 < left {
-        let ty = type_at(sheet, cell);
-        if !is_plain_code(ty.code) {
-            return false;
-        }
-        cell += 2;
-        left -= 1;
-    }
-    true
+    (0..cell_at(sheet.bytes, 0)).all(|k| {
+        let ty = type_at(sheet.bytes, 6 + 2 * k as usize);
+        is_plain_code(ty.code)
+    })
 }
 
-// It says whether none of `n` parameters from cell `from` on has the id `x`.
-fn is_absent(sheet: &[u8], x: u64, n: u64, from: usize) -> bool
-    requires { from + 3 * n ≤ cells sheet.now }
-    ensures { result ≡ is_absent x (vars_at sheet.now n from) }
-{
-    let mut left = n;
-    let mut cell = from;
-    while 0 < left {
-        let p = var_at(sheet, cell);
-        if p.id == x {
-            return false;
-        }
-        cell += 3;
-        left -= 1;
-    }
-    true
+// A sheet has this many parameters, from this cell on.
+#[derive(Clone, Copy)]
+struct Params<'a> {
+    sheet: Sheet<'a>,
+    count: u64,
+    from: usize,
+    ghost whole: { from + 3 * count ≤ cells sheet.bytes.now },
 }
 
-fn are_distinct(sheet: &[u8], n: u64, from: usize) -> bool
-    requires { from + 3 * n ≤ cells sheet.now }
-    ensures { result ≡ are_distinct (vars_at sheet.now n from) }
-{
-    let mut left = n;
-    let mut cell = from;
-    while 0 < left {
-        let p = var_at(sheet, cell);
-        left -= 1;
-        cell += 3;
-        if !is_absent(sheet, p.id, left, cell) {
-            return false;
-        }
+impl<'a> Params<'a> {
+    fn at(&self, k: u64) -> VarId
+        requires { k < self.now.count }
+        ensures { result ≡ var_at self.now.sheet.bytes.now (self.now.from + 3 * k) }
+    {
+        var_at(self.sheet.bytes, self.from + 3 * k as usize)
     }
-    true
-}
 
-// It says whether `n` parameters from cell `from` on have their entries' types, and are no arrays.
-fn are_scalar_vars(sheet: &[u8], n: u64, from: usize) -> bool
-    requires sheet_bound { params_from sheet.now ≤ cells sheet.now }
-    requires n_bound { from + 3 * n ≤ cells sheet.now }
-    ensures { result ≡ every (is_scalar_var (function_of sheet.now)) (vars_at sheet.now n from) }
-{
-    let mut left = n;
-    let mut cell = from;
-    while 0 < left {
-        let p = var_at(sheet, cell);
-        if !is_scalar_var(sheet, p) {
-            return false;
-        }
-        cell += 3;
-        left -= 1;
+    // It says whether no parameter behind number `k` has its id.
+    fn is_last_of_id(&self, k: u64) -> bool
+        requires { k < self.now.count }
+        ensures { let s = self.now.sheet.bytes.now in
+            let p = var_at s (self.now.from + 3 * k) in
+            result ≡ is_absent p.id (vars_at s (self.now.count - (k + 1)) (self.now.from + 3 * (k + 1))) }
+    {
+        // A copy is known to have a count that fits, and so the sum does.
+        let params = *self;
+        let id = params.at(k).id;
+        (k + 1..params.count).all(|j| params.at(j).id != id)
     }
-    true
+
+    fn are_distinct(&self) -> bool
+        ensures { result ≡ are_distinct (vars_at self.now.sheet.bytes.now self.now.count self.now.from) }
+    {
+        (0..self.count).all(|k| self.is_last_of_id(k))
+    }
+
+    // It says whether they have their entries' types, and are no arrays.
+    fn are_scalar(&self) -> bool
+        ensures { let s = self.now.sheet.bytes.now in
+            result ≡ every (is_scalar_var (function_of s)) (vars_at s self.now.count self.now.from) }
+    {
+        (0..self.count).all(|k| is_scalar_var(&self.sheet, self.at(k)))
+    }
 }
 
 // There may be any number of parameters; their ids are distinct, and none is an array.
-pub fn is_plain_head(sheet: &[u8]) -> bool
-    requires { body_from sheet.now ≤ cells sheet.now }
-    ensures { result ≡ is_plain_head (function_of sheet.now) }
+#[tactic(auto, unfolding(ir::specs::Function::function_of, machine::specs::Plain::is_plain_head))]
+pub fn is_plain_head(sheet: &Sheet) -> bool
+    requires { body_from sheet.now.bytes.now ≤ cells sheet.now.bytes.now }
+    ensures { result ≡ is_plain_head (function_of sheet.now.bytes.now) }
 {
-    let vars = cell_at(sheet, 0);
-    let params = cell_at(sheet, 1);
-    let from = 6 + 2 * vars as usize;
-    if !are_plain_types(sheet, vars, 6) {
-        return false;
-    }
-    let ret = type_at(sheet, 3);
-    if !is_plain_return(ret) {
-        return false;
-    }
-    if !are_distinct(sheet, params, from) {
-        return false;
-    }
-    are_scalar_vars(sheet, params, from)
+    let params = Params {
+        sheet: *sheet,
+        count: cell_at(sheet.bytes, 1),
+        from: 6 + 2 * cell_at(sheet.bytes, 0) as usize,
+    };
+    are_plain_types(sheet)
+        && is_plain_return(type_at(sheet.bytes, 3))
+        && params.are_distinct()
+        && params.are_scalar()
 }

@@ -1,92 +1,68 @@
 // Operands and constants are tested here.
-ghost use Rattle.std.specs.Prelude.{◌≡◌, ◌≤◌};
-ghost use Rattle.cells.specs.Cells.{cells};
-ghost use Rattle.ir.specs.Function.{function_of, params_from};
+ghost use Rattle.std.specs.Prelude.{◌≡◌, ◌≤◌, ◌^◌};
+ghost use Rattle.ir.specs.Function.{function_of};
 ghost use Rattle.machine.specs.Steps.{width};
-ghost use Rattle.machine.specs.Plain.{is_short, is_small, is_plain_operand, long_constant, is_bool};
-ghost use Rattle.plain.specs.Parts.{is_plain_constant, is_same};
+ghost use Rattle.machine.specs.Plain.{is_plain_operand, long_constant, is_bool};
+ghost use Rattle.plain.specs.Parts.{lies_below, is_same};
 
 use crate::vars::{is_bool_type, is_scalar_var};
+use ir::read::Sheet;
 use ir::{Operand, VarId};
 
-// It says whether this is the pattern of a number from -2^31 to 2^32 - 1.
-fn is_short(v: u64) -> bool
-    ensures { result ≡ is_short v }
+// Numbers from -2^31 to this one, which is left out, have the pattern of four bytes, be they signed or not.
+pub const SHORT_END: u64 = 1 << 32;
+
+// Numbers from -2^31 to this one, which is left out, have the pattern of four signed bytes.
+pub const SMALL_END: u64 = 1 << 31;
+
+// It says whether this is the pattern of a number from -2^31 to `end` - 1.
+fn lies_below(value: u64, end: u64) -> bool
+    requires { end ≤ 2 ^ 63 }
+    ensures { result ≡ lies_below end value }
 {
-    std::num::wrapping_add_u64(v, 0x8000_0000) < 0x1_8000_0000
+    value.wrapping_add(0x8000_0000) < end + 0x8000_0000
 }
 
-// It says whether this is the pattern of a number from -2^31 to 2^31 - 1.
-fn is_small(v: u64) -> bool
-    ensures { result ≡ is_small v }
+// A plain operand is no float constant, string address or Address; a short constant has four bytes.
+pub fn is_plain_operand(sheet: &Sheet, operand: Operand) -> bool
+    ensures { result ≡ is_plain_operand (function_of sheet.now.bytes.now) operand }
 {
-    std::num::wrapping_add_u64(v, 0x8000_0000) < 0x1_0000_0000
-}
-
-// A plain constant is no float constant, string address or Address; a short one has four bytes.
-fn is_plain_constant(x: Operand) -> bool
-    ensures { result ≡ is_plain_constant x }
-{
-    match x {
-        Operand::Int(v, short, _) => { if short { is_short(v) } else { true } }
-        Operand::Bool(_) => true,
-        Operand::Null => true,
+    match operand {
+        Operand::Var(var) => is_scalar_var(sheet, var),
+        Operand::Int(value, short, _) => !short || lies_below(value, SHORT_END),
+        Operand::Bool(_) | Operand::Null => true,
         _ => false,
     }
 }
 
-pub fn is_plain_operand(sheet: &[u8], x: Operand) -> bool
-    requires { params_from sheet.now ≤ cells sheet.now }
-    ensures { result ≡ is_plain_operand (function_of sheet.now) x }
+// A long constant lies in -2^31 to `end` - 1.
+pub fn long_lies_below(operand: Operand, end: u64) -> bool
+    requires { end ≤ 2 ^ 63 }
+    ensures { result ≡ long_constant (lies_below end) operand }
 {
-    let Operand::Var(v) = x else {
-        return is_plain_constant(x);
-    };
-    is_scalar_var(sheet, v)
+    match operand {
+        Operand::Int(value, short, _) => short || lies_below(value, end),
+        _ => true,
+    }
 }
 
-// A long constant lies in -2^31 to 2^31 - 1.
-pub fn small_if_long(x: Operand) -> bool
-    ensures { result ≡ long_constant is_small x }
+pub fn is_bool(operand: Operand) -> bool
+    ensures { result ≡ is_bool operand }
 {
-    let Operand::Int(v, short, _) = x else {
-        return true;
-    };
-    if short { true } else { is_small(v) }
-}
-
-// A long constant lies in -2^31 to 2^32 - 1.
-pub fn short_if_long(x: Operand) -> bool
-    ensures { result ≡ long_constant is_short x }
-{
-    let Operand::Int(v, short, _) = x else {
-        return true;
-    };
-    if short { true } else { is_short(v) }
-}
-
-pub fn is_bool(x: Operand) -> bool
-    ensures { result ≡ is_bool x }
-{
-    match x {
-        Operand::Var(v) => {
-            let ty = v.ty;
-            is_bool_type(ty)
-        }
+    match operand {
+        Operand::Var(var) => is_bool_type(var.ty),
         Operand::Bool(_) => true,
         _ => false,
     }
 }
 
 // A variable has its bytes, an Int 4 or 8 by its flag, a Bool 1, Null 8.
-pub fn width(x: Operand) -> u64
-    ensures { result ≡ width x }
+#[tactic(auto, unfolding(machine::specs::Steps::width))]
+pub fn width(operand: Operand) -> u64
+    ensures { result ≡ width operand }
 {
-    match x {
-        Operand::Var(v) => {
-            let ty = v.ty;
-            ty.bytes()
-        }
+    match operand {
+        Operand::Var(var) => var.ty.bytes(),
         Operand::Int(_, short, _) => { if short { 4 } else { 8 } }
         Operand::Bool(_) => 1,
         Operand::Null => 8,
@@ -94,9 +70,8 @@ pub fn width(x: Operand) -> u64
     }
 }
 
-pub fn is_same(d: VarId, x: Operand) -> bool
-    ensures { result ≡ is_same d x }
+pub fn is_same(dest: VarId, operand: Operand) -> bool
+    ensures { result ≡ is_same dest operand }
 {
-    let ty = d.ty;
-    width(x) == ty.bytes()
+    width(operand) == dest.ty.bytes()
 }

@@ -1,383 +1,149 @@
 // The calls of the other exports: each is lent what the list says, and is held to the list's answer and to every byte that it is lent to write.
-use crate::list::{Compared, EDGE, Place, Read, fill, number, slice_in};
-use crate::report::difference;
+use crate::list::{EDGE, Malformed, ROOM, Reader, fill};
+use crate::report::{Difference, Report};
+use crate::{ReplayError, zeros};
 use engine::editions::{gilthoren_to_edition1, gilthoren_to_edition2};
 use engine::pack_lower::gilthoren_pack_lower;
 use engine::pack_sheet::gilthoren_pack_sheet;
 use engine::pack_totals::gilthoren_pack_totals;
-use std::io;
 
-// It has an export's answer, and what it leaves at its pointers, in order.
 #[derive(Clone, Copy)]
-struct Said {
-    numbers: [u64; 4],
+enum Export {
+    PackSheet,
+    PackLower,
+    PackTotals,
+    ToEdition2,
+    ToEdition1,
 }
 
-// It says whether the next n numbers of the list are those of an answer.
-fn same_numbers(list: &[u8], at: usize, n: usize, said: Said) -> Compared {
-    let numbers = said.numbers;
-    let mut k = at;
-    let mut j = 0;
-    let mut same = true;
-    while j < n {
-        let Read::Number(wanted, next) = number(list, k) else {
-            return Compared::Bad;
-        };
-        if j < 4 {
-            if numbers[j] != wanted {
-                same = false;
-            }
-        } else {
-            same = false;
+impl TryFrom<u64> for Export {
+    type Error = Malformed;
+
+    fn try_from(number: u64) -> Result<Self, Malformed> {
+        match number {
+            0 => Ok(Export::PackSheet),
+            1 => Ok(Export::PackLower),
+            2 => Ok(Export::PackTotals),
+            3 => Ok(Export::ToEdition2),
+            4 => Ok(Export::ToEdition1),
+            _ => Err(Malformed),
         }
-        k = next;
-        j += 1;
     }
-    Compared::At(k, same)
 }
 
-// It says whether two slices have the same bytes.
-fn is_same(a: &[u8], b: &[u8]) -> bool {
-    if a.len() != b.len() {
-        return false;
+// An export is lent bytes of `out` to write, behind EDGE others; after the call all must be as in `wanted`.
+#[derive(Drop)]
+struct Output {
+    out: [u8; ROOM],
+    wanted: [u8; ROOM],
+}
+
+impl Output {
+    // It reads how many bytes are lent, and what they start with, and gives them.
+    fn lend(&mut self, list: &mut Reader<'_>) -> Result<&mut [u8], Malformed> {
+        let end = EDGE + list.lent()?;
+        fill(&mut self.out);
+        list.slice(&mut self.out[EDGE..])?;
+        self.wanted.copy_from_slice(&self.out);
+        Ok(&mut self.out[EDGE..end])
     }
-    let mut k = 0;
-    while k < a.len() {
-        if a[k] != b[k] {
-            return false;
+
+    // The list has the answer, a number, and what the bytes that were lent start with after the call; all others stand as before.
+    fn is_held(
+        &mut self,
+        list: &mut Reader<'_>,
+        answer: u64,
+        place: u64,
+    ) -> Result<bool, Malformed> {
+        let same = list.has_numbers(&[answer, place])?;
+        list.slice(&mut self.wanted[EDGE..])?;
+        Ok(same && self.out == self.wanted)
+    }
+}
+
+// It has room for what the exports read and write.
+#[derive(Drop)]
+struct Room {
+    tables: [u8; 4096],
+    sheet: [u8; 458752],
+    output: Output,
+}
+
+impl Room {
+    // It makes the next call, and says whether it went as the list has it.
+    fn call(&mut self, list: &mut Reader<'_>) -> Result<bool, Malformed> {
+        match Export::try_from(list.number()?)? {
+            Export::PackSheet => self.pack_sheet(list),
+            Export::PackLower => self.pack_lower(list),
+            Export::PackTotals => self.pack_totals(list),
+            Export::ToEdition2 => self.conversion(list, gilthoren_to_edition2),
+            Export::ToEdition1 => self.conversion(list, gilthoren_to_edition1),
         }
-        k += 1;
     }
-    true
-}
 
-// It reads how many bytes are lent, and what they start with; both slices are filled, and then start with it behind EDGE bytes.
-fn lend(list: &[u8], at: usize, out: &mut [u8], wanted: &mut [u8]) -> Read {
-    let Read::Number(length, first) = number(list, at) else {
-        return Read::Bad;
-    };
-    if out.len() < 2 * EDGE {
-        return Read::Bad;
+    // The list has a pack and a number; then the answer, and three numbers.
+    fn pack_sheet(&mut self, list: &mut Reader<'_>) -> Result<bool, Malformed> {
+        let pack = list.slice(&mut self.sheet)?;
+        let sheet = list.number()?;
+        let (mut place, mut from, mut length) = (0, 0, 0);
+        let answer = gilthoren_pack_sheet(pack, sheet, &mut place, &mut from, &mut length);
+        list.has_numbers(&[answer, place, from, length])
     }
-    if wanted.len() < 2 * EDGE {
-        return Read::Bad;
-    }
-    fill(out);
-    fill(wanted);
-    let Read::Number(_, next) = slice_in(list, first, &mut out[EDGE..]) else {
-        return Read::Bad;
-    };
-    let Read::Number(_, _) = slice_in(list, first, &mut wanted[EDGE..]) else {
-        return Read::Bad;
-    };
-    if ((out.len() - 2 * EDGE) as u64) < length {
-        return Read::Bad;
-    }
-    Read::Number(length, next)
-}
 
-// What is wanted starts with the next slice of the list, behind EDGE bytes.
-fn is_left(list: &[u8], at: usize, out: &[u8], wanted: &mut [u8]) -> Compared {
-    if wanted.len() < EDGE {
-        return Compared::Bad;
+    // The list has tables, a pack, a number and the bytes that are lent; then the answer, a number, and what is written.
+    fn pack_lower(&mut self, list: &mut Reader<'_>) -> Result<bool, Malformed> {
+        let tables = list.slice(&mut self.tables)?;
+        let pack = list.slice(&mut self.sheet)?;
+        let sheet = list.number()?;
+        let records = self.output.lend(list)?;
+        let mut place = 0;
+        let answer = gilthoren_pack_lower(tables, pack, sheet, records, &mut place);
+        self.output.is_held(list, answer, place)
     }
-    let Read::Number(_, next) = slice_in(list, at, &mut wanted[EDGE..]) else {
-        return Compared::Bad;
-    };
-    Compared::At(next, is_same(out, wanted))
-}
 
-// An answer of n numbers is held to the list's, and then the bytes that were lent to be written.
-fn held(
-    rt: &impl Print,
-    list: &[u8],
-    at: usize,
-    index: u64,
-    n: usize,
-    said: Said,
-    out: &[u8],
-    wanted: &mut [u8],
-    counts: &mut [u64; 32],
-) -> io::Result<Place> {
-    let Compared::At(after, same) = same_numbers(list, at, n, said) else {
-        return Ok(Place::Bad);
-    };
-    let Compared::At(next, left) = is_left(list, after, out, wanted) else {
-        return Ok(Place::Bad);
-    };
-    if !(same && left) {
-        difference(rt, index, 5, counts)?;
+    // The list has tables and a pack; then the answer, and three numbers.
+    fn pack_totals(&mut self, list: &mut Reader<'_>) -> Result<bool, Malformed> {
+        let tables = list.slice(&mut self.tables)?;
+        let pack = list.slice(&mut self.sheet)?;
+        let (mut place, mut records, mut refused) = (0, 0, 0);
+        let answer = gilthoren_pack_totals(tables, pack, &mut place, &mut records, &mut refused);
+        list.has_numbers(&[answer, place, records, refused])
     }
-    Ok(Place::At(next))
-}
 
-// It calls an export that reads one slice, writes one and leaves one number.
-fn written_by(export: u64, first: &[u8], out: &mut [u8], place: &mut u64) -> u64 {
-    if export == 3 {
-        return gilthoren_to_edition2(first, out, place);
-    }
-    gilthoren_to_edition1(first, out, place)
-}
-
-// The list has a slice to be read and one to be written; then two answers, and what is written.
-fn with_one(
-    rt: &impl Print,
-    list: &[u8],
-    at: usize,
-    index: u64,
-    export: u64,
-    first: &mut [u8],
-    out: &mut [u8],
-    wanted: &mut [u8],
-    counts: &mut [u64; 32],
-) -> io::Result<Place> {
-    let Read::Number(a, second) = slice_in(list, at, first) else {
-        return Ok(Place::Bad);
-    };
-    let Read::Number(room, answers) = lend(list, second, out, wanted) else {
-        return Ok(Place::Bad);
-    };
-    if first.len() < a as usize {
-        return Ok(Place::Bad);
-    }
-    if 1048576 < room {
-        return Ok(Place::Bad);
-    }
-    let end = EDGE + room as usize;
-    if out.len() < end {
-        return Ok(Place::Bad);
-    }
-    let mut place = 0;
-    let answer = written_by(
-        export,
-        &first[..a as usize],
-        &mut out[EDGE..end],
-        &mut place,
-    );
-    let numbers = [answer, place, 0, 0];
-    held(
-        rt,
-        list,
-        answers,
-        index,
-        2,
-        Said { numbers },
-        out,
-        wanted,
-        counts,
-    )
-}
-
-// The list has a pack, a number and four answers.
-fn pack_sheet(
-    rt: &impl Print,
-    list: &[u8],
-    at: usize,
-    index: u64,
-    pack: &mut [u8],
-    counts: &mut [u64; 32],
-) -> io::Result<Place> {
-    let Read::Number(p, second) = slice_in(list, at, pack) else {
-        return Ok(Place::Bad);
-    };
-    let Read::Number(sheet, answers) = number(list, second) else {
-        return Ok(Place::Bad);
-    };
-    if pack.len() < p as usize {
-        return Ok(Place::Bad);
-    }
-    let mut place = 0;
-    let mut from = 0;
-    let mut length = 0;
-    let answer = gilthoren_pack_sheet(
-        &pack[..p as usize],
-        sheet,
-        &mut place,
-        &mut from,
-        &mut length,
-    );
-    let numbers = [answer, place, from, length];
-    let Compared::At(next, same) = same_numbers(list, answers, 4, Said { numbers }) else {
-        return Ok(Place::Bad);
-    };
-    if !same {
-        difference(rt, index, 5, counts)?;
-    }
-    Ok(Place::At(next))
-}
-
-// The list has what is lent beside tables and pack: a number and a slice to be written; then two answers, and what is written.
-fn pack_lower(
-    rt: &impl Print,
-    list: &[u8],
-    at: usize,
-    index: u64,
-    tables: &[u8],
-    pack: &[u8],
-    out: &mut [u8],
-    wanted: &mut [u8],
-    counts: &mut [u64; 32],
-) -> io::Result<Place> {
-    let Read::Number(sheet, second) = number(list, at) else {
-        return Ok(Place::Bad);
-    };
-    let Read::Number(room, answers) = lend(list, second, out, wanted) else {
-        return Ok(Place::Bad);
-    };
-    if 1048576 < room {
-        return Ok(Place::Bad);
-    }
-    let end = EDGE + room as usize;
-    if out.len() < end {
-        return Ok(Place::Bad);
-    }
-    let mut place = 0;
-    let answer = gilthoren_pack_lower(tables, pack, sheet, &mut out[EDGE..end], &mut place);
-    let numbers = [answer, place, 0, 0];
-    held(
-        rt,
-        list,
-        answers,
-        index,
-        2,
-        Said { numbers },
-        out,
-        wanted,
-        counts,
-    )
-}
-
-// The list has four answers behind tables and pack.
-fn pack_totals(
-    rt: &impl Print,
-    list: &[u8],
-    at: usize,
-    index: u64,
-    tables: &[u8],
-    pack: &[u8],
-    counts: &mut [u64; 32],
-) -> io::Result<Place> {
-    let mut place = 0;
-    let mut records = 0;
-    let mut refused = 0;
-    let answer = gilthoren_pack_totals(tables, pack, &mut place, &mut records, &mut refused);
-    let numbers = [answer, place, records, refused];
-    let Compared::At(next, same) = same_numbers(list, at, 4, Said { numbers }) else {
-        return Ok(Place::Bad);
-    };
-    if !same {
-        difference(rt, index, 5, counts)?;
-    }
-    Ok(Place::At(next))
-}
-
-// It calls an export that is lent two slices to read.
-fn lent_two(
-    rt: &impl Print,
-    list: &[u8],
-    at: usize,
-    index: u64,
-    export: u64,
-    first: &[u8],
-    second: &[u8],
-    out: &mut [u8],
-    wanted: &mut [u8],
-    counts: &mut [u64; 32],
-) -> io::Result<Place> {
-    match export {
-        1 => pack_lower(rt, list, at, index, first, second, out, wanted, counts),
-        2 => pack_totals(rt, list, at, index, first, second, counts),
-        _ => Ok(Place::Bad),
+    // The list has a sheet and the bytes that are lent; then the answer, a number, and what is written.
+    fn conversion<F: Fn(&[u8], &mut [u8], &mut u64) -> u64>(
+        &mut self,
+        list: &mut Reader<'_>,
+        convert: F,
+    ) -> Result<bool, Malformed>
+        requires { F.IsAlwaysCallable convert }
+    {
+        let sheet = list.slice(&mut self.sheet)?;
+        let out = self.output.lend(list)?;
+        let mut place = 0;
+        let answer = convert(sheet, out, &mut place);
+        self.output.is_held(list, answer, place)
     }
 }
 
-// It reads two slices, and calls an export that is lent both.
-fn with_two(
-    rt: &impl Print,
-    list: &[u8],
-    at: usize,
-    index: u64,
-    export: u64,
-    first: &mut [u8],
-    second: &mut [u8],
-    out: &mut [u8],
-    wanted: &mut [u8],
-    counts: &mut [u64; 32],
-) -> io::Result<Place> {
-    let Read::Number(a, next) = slice_in(list, at, first) else {
-        return Ok(Place::Bad);
+// It makes all the calls, and gives their number.
+pub(crate) fn replay_calls(
+    list: &mut Reader<'_>,
+    report: &mut Report<'_, impl Print>,
+) -> Result<u64, ReplayError> {
+    let mut room = Room {
+        tables: zeros(),
+        sheet: zeros(),
+        output: Output {
+            out: zeros(),
+            wanted: zeros(),
+        },
     };
-    let Read::Number(b, rest) = slice_in(list, next, second) else {
-        return Ok(Place::Bad);
-    };
-    if first.len() < a as usize {
-        return Ok(Place::Bad);
-    }
-    if second.len() < b as usize {
-        return Ok(Place::Bad);
-    }
-    lent_two(
-        rt,
-        list,
-        rest,
-        index,
-        export,
-        &first[..a as usize],
-        &second[..b as usize],
-        out,
-        wanted,
-        counts,
-    )
-}
-
-// It reads and makes one call, of the export that the list numbers.
-fn call(
-    rt: &impl Print,
-    list: &[u8],
-    at: usize,
-    index: u64,
-    first: &mut [u8],
-    second: &mut [u8],
-    out: &mut [u8],
-    wanted: &mut [u8],
-    counts: &mut [u64; 32],
-) -> io::Result<Place> {
-    let Read::Number(export, next) = number(list, at) else {
-        return Ok(Place::Bad);
-    };
-    match export {
-        0 => pack_sheet(rt, list, next, index, second, counts),
-        3..=4 => with_one(rt, list, next, index, export, second, out, wanted, counts),
-        _ => with_two(
-            rt, list, next, index, export, first, second, out, wanted, counts,
-        ),
-    }
-}
-
-// It makes the calls from `at` on, of which there are n.
-pub(crate) fn call_all(
-    rt: &impl Print,
-    list: &[u8],
-    at: usize,
-    n: u64,
-    first: &mut [u8],
-    second: &mut [u8],
-    out: &mut [u8],
-    wanted: &mut [u8],
-    counts: &mut [u64; 32],
-) -> io::Result<Place> {
-    let mut k = at;
-    let mut index = 0;
-    while index < n {
-        match call(rt, list, k, index, first, second, out, wanted, counts)? {
-            Place::At(next) => {
-                k = next;
-            }
-            Place::Bad => {
-                return Ok(Place::Bad);
-            }
+    let n = list.number()?;
+    for index in 0..n {
+        if !room.call(list)? {
+            report.difference(index, Difference::Call)?;
         }
-        index += 1;
     }
-    Ok(Place::At(k))
+    Ok(n)
 }

@@ -1,165 +1,139 @@
 // The compact form of the fixed list is read here (vectors/README.md), and slices are filled before a call and looked at behind it.
-use cells::put_word;
+ghost use Rattle.std.specs.Prelude.{◌+◌, ◌≤◌, IfOk};
 
-// So many bytes stand in front of the record bytes that are lent, and behind them.
+use std::ops::Range;
+
+const MAGIC: &[u8] = b"KRCVEC02";
+
+// So many bytes stand in front of those that are lent to be written, and behind them; and there is room for so many, with these.
 pub(crate) const EDGE: usize = 64;
 
-// It has a number of the list, or of bytes that were read into a slice, and the place behind it in the list; or the list is malformed.
+pub(crate) const ROOM: usize = 66240;
+
+const MOST_LENT: u64 = (ROOM - 2 * EDGE) as u64;
+
+// The list is not of the form that vectors/README.md has.
 #[derive(Clone, Copy)]
-pub(crate) enum Read {
-    Number(u64, usize),
-    Bad,
+pub(crate) struct Malformed;
+
+// It reads the list from its start to its end; `rest` is what is left.
+#[derive(Drop)]
+pub(crate) struct Reader<'a> {
+    rest: &'a [u8],
 }
 
-// It has the place behind what was read; or the list is malformed.
-#[derive(Clone, Copy)]
-pub(crate) enum Place {
-    At(usize),
-    Bad,
-}
-
-// It has the place behind records or faults, and whether they are as they should be; or the list is malformed.
-#[derive(Clone, Copy)]
-pub(crate) enum Compared {
-    At(usize, bool),
-    Bad,
-}
-
-pub(crate) fn wide(x: u8) -> u64 {
-    x as u64
-}
-
-// A number is seven bits a byte, lowest first, with the high bit set on all bytes but the last.
-pub(crate) fn number(list: &[u8], at: usize) -> Read {
-    let mut value: u64 = 0;
-    let mut shift: u32 = 0;
-    let mut k = at;
-    while shift < 64 {
-        if list.len() <= k {
-            return Read::Bad;
-        }
-        let b = wide(list[k]);
-        k += 1;
-        value |= (b % 128) << shift;
-        if b < 128 {
-            return Read::Number(value, k);
-        }
-        shift += 7;
+impl<'a> Reader<'a> {
+    pub(crate) fn new(list: &'a [u8]) -> Result<Self, Malformed> {
+        let rest = list.strip_prefix(MAGIC).ok_or(Malformed)?;
+        Ok(Reader { rest })
     }
-    Read::Bad
-}
 
-// It gives a cell from its zigzag code.
-pub(crate) fn cell(z: u64) -> u64 {
-    if z % 2 == 0 {
-        z / 2
-    } else {
-        18446744073709551615 - z / 2
+    fn byte(&mut self) -> Result<u8, Malformed> {
+        self.rest.split_off_first().copied().ok_or(Malformed)
     }
-}
 
-// It puts n cells at the start of `out`.
-pub(crate) fn cells_in(list: &[u8], at: usize, n: u64, out: &mut [u8]) -> Place {
-    let mut k = at;
-    let mut to = 0;
-    let mut left = n;
-    while 0 < left {
-        if out.len() - to < 8 {
-            return Place::Bad;
-        }
-        match number(list, k) {
-            Read::Number(z, next) => {
-                put_word(out, to, cell(z));
-                k = next;
-            }
-            Read::Bad => {
-                return Place::Bad;
+    // A number is seven bits a byte, lowest first, with the high bit set on all bytes but the last.
+    pub(crate) fn number(&mut self) -> Result<u64, Malformed> {
+        let mut value = 0;
+        for k in 0..10u32 {
+            let byte = u64::from(self.byte()?);
+            value |= (byte % 128) << (7 * k);
+            if byte < 128 {
+                return Ok(value);
             }
         }
-        to += 8;
-        left -= 1;
+        Err(Malformed)
     }
-    Place::At(k)
-}
 
-// It puts n bytes of the list into `out`, from `from` on.
-pub(crate) fn bytes_in(list: &[u8], at: usize, n: usize, out: &mut [u8], from: usize) -> Place {
-    let mut k = at;
-    let mut to = from;
-    let mut left = n;
-    while 0 < left {
-        if list.len() <= k {
-            return Place::Bad;
+    // It reads how many bytes are lent to be written, for which there must be room.
+    pub(crate) fn lent(&mut self) -> Result<usize, Malformed>
+        ensures { IfOk result (λ n. n + 128 ≤ 66240) }
+    {
+        let n = self.number()?;
+        if MOST_LENT < n {
+            return Err(Malformed);
         }
-        if out.len() <= to {
-            return Place::Bad;
+        Ok(n as usize)
+    }
+
+    // A cell is in zigzag code.
+    fn cell(&mut self) -> Result<u64, Malformed> {
+        let z = self.number()?;
+        Ok(if z % 2 == 0 { z / 2 } else { u64::MAX - z / 2 })
+    }
+
+    // It reads a slice to the start of `out`, and gives it: cells, and the bytes of a torn last cell.
+    pub(crate) fn slice<'b>(&mut self, out: &'b mut [u8]) -> Result<&'b [u8], Malformed> {
+        let cells = self.number()?;
+        if ((out.len() / 8) as u64) < cells {
+            return Err(Malformed);
         }
-        out[to] = list[k];
-        k += 1;
-        to += 1;
-        left -= 1;
-    }
-    Place::At(k)
-}
-
-// It reads the bytes of a torn last cell, which stand behind `whole` bytes of cells.
-pub(crate) fn tail_in(list: &[u8], at: usize, whole: usize, out: &mut [u8]) -> Read {
-    if list.len() <= at {
-        return Read::Bad;
-    }
-    let n = wide(list[at]);
-    if 7 < n {
-        return Read::Bad;
-    }
-    if 1048576 < whole {
-        return Read::Bad;
-    }
-    match bytes_in(list, at + 1, n as usize, out, whole) {
-        Place::At(next) => Read::Number(whole as u64 + n, next),
-        Place::Bad => Read::Bad,
-    }
-}
-
-// It reads a slice to the start of `out`.
-pub(crate) fn slice_in(list: &[u8], at: usize, out: &mut [u8]) -> Read {
-    match number(list, at) {
-        Read::Number(n, first) => {
-            if 131072 < n {
-                return Read::Bad;
-            }
-            match cells_in(list, first, n, out) {
-                Place::At(tail) => tail_in(list, tail, 8 * n as usize, out),
-                Place::Bad => Read::Bad,
-            }
+        let whole = 8 * cells as usize;
+        for word in out[..whole].chunks_exact_mut(8) {
+            word.copy_from_slice(&self.cell()?.to_le_bytes());
         }
-        Read::Bad => Read::Bad,
+        let torn = usize::from(self.byte()?);
+        if 7 < torn || out.len() - whole < torn {
+            return Err(Malformed);
+        }
+        let tail = self.rest.split_off(..torn).ok_or(Malformed)?;
+        out[whole..whole + torn].copy_from_slice(tail);
+        Ok(&out[..whole + torn])
+    }
+
+    // It says whether the next numbers are these.
+    pub(crate) fn has_numbers(&mut self, wanted: &[u64]) -> Result<bool, Malformed> {
+        let mut same = true;
+        for number in wanted {
+            same &= self.number()? == *number;
+        }
+        Ok(same)
+    }
+
+    // It says whether the next n cells are those at the start of `bytes`.
+    pub(crate) fn has_cells(&mut self, n: usize, bytes: &[u8]) -> Result<bool, Malformed> {
+        let (words, _) = bytes.as_chunks::<8>();
+        let mut same = true;
+        for k in 0..n {
+            let cell = self.cell()?.to_le_bytes();
+            same &= words.get(k) == Some(&cell);
+        }
+        Ok(same)
+    }
+
+    // It reads the numbers at fault, which stand behind their count, and gives the first.
+    pub(crate) fn first_fault(&mut self) -> Result<Option<u64>, Malformed> {
+        let mut first = None;
+        for _ in 0..self.number()? {
+            let number = self.number()?;
+            first = first.or(Some(number));
+        }
+        Ok(first)
+    }
+
+    // Nothing is left.
+    pub(crate) fn end(&self) -> Result<(), Malformed> {
+        if self.rest.is_empty() {
+            Ok(())
+        } else {
+            Err(Malformed)
+        }
     }
 }
 
-// This byte stands at a place of the record bytes before a call.
-pub(crate) fn filler(k: usize) -> u8 {
+// This byte stands at a place of the bytes that are lent before a call.
+fn filler(k: usize) -> u8 {
     (k % 251) as u8
 }
 
-pub(crate) fn fill(records: &mut [u8]) {
-    let mut k = 0;
-    while k < records.len() {
-        records[k] = filler(k);
-        k += 1;
+pub(crate) fn fill(bytes: &mut [u8]) {
+    for (k, byte) in bytes.iter_mut().enumerate() {
+        *byte = filler(k);
     }
 }
 
-// It says whether the bytes from `from` to before `to` stand as they were filled in.
-pub(crate) fn is_filled(records: &[u8], from: usize, to: usize) -> bool {
-    let mut k = from;
-    while k < to {
-        if records.len() <= k {
-            return false;
-        }
-        if records[k] != filler(k) {
-            return false;
-        }
-        k += 1;
-    }
-    true
+// It says whether all bytes but those of `written` stand as they were filled in.
+pub(crate) fn is_filled_around(written: Range<usize>, bytes: &[u8]) -> bool {
+    let mut bytes = bytes.iter().enumerate();
+    bytes.all(|(k, byte)| written.contains(&k) || *byte == filler(k))
 }

@@ -12,7 +12,10 @@ use Rattle.ir.specs.Types.{Result, ok}
 use Rattle.ir.specs.Function.{Tables, arguments_at, operands_at, instr_at, line_at, lines_at, behind, params_from, body_from, tables_of, function_of}
 use Rattle.ir.proofs.Sheet.{vars_length, operands_length}
 use Rattle.cells.specs.declared.Cursor.{Cursor}
-use Rattle.layout.specs.declared.Checked.{Checked}
+use Rattle.std.specs.Prelude.{Ok, Err}
+use Rattle.cells.specs.declared.refusals.Refused.{Refused}
+use Rattle.cells.specs.Refusals.{number_of_refusal}
+use Rattle.layout.specs.Layout.{Checked}
 use Rattle.layout.specs.declared.Edition.{Edition}
 use Rattle.layout.specs.Layout.{tables_check, sheet_check}
 use Rattle.layout.proofs.Laws.{sheet_right, head_params}
@@ -52,9 +55,9 @@ module _ (s : List ℕ) (ctx : Context) (labels : ℕ) (ret : IrType) where
       next w = let l : suc n - 1 ≡ n = omega arith in rw l at (walk_next (suc n) k w (omega arith))
 
 -- behind a check that is passed
-passed : {A : Type 0} (x : Checked) (f : Unit {0} → Outcome A) {a : A} → checked x f ≡ accepted a → (d : Cursor) × (x ≡ Checked.Behind d) × (f tt ≡ accepted a)
-passed (Checked.Behind d) f e = (d, refl, e)
-passed (Checked.Refused n k) f e = absurd (never e)
+passed : {A : Type 0} (x : Checked) (f : Unit {0} → Outcome A) {a : A} → checked x f ≡ accepted a → (d : Cursor) × (x ≡ Ok d) × (f tt ≡ accepted a)
+passed (Ok d) f e = (d, refl, e)
+passed (Err r) f e = absurd (never e)
 
 ended_few : (is : List Instruction) → length (with_epilogue is) ≤ length is + 3
 unfolding with_epilogue
@@ -64,7 +67,7 @@ ended_few is = go (ends_in_ret is)
     go true = omega arith
     go false = omega (arith, length-append is func_epilogue)
 
-generated_few : (tables : Tables) (s : List ℕ) {is : List Instruction} {d : Cursor} → sheet_check s ≡ Checked.Behind d → generate tables (function_of s) ≡ accepted is → length is ≤ most_in_sheet
+generated_few : (tables : Tables) (s : List ℕ) {is : List Instruction} {d : Cursor} → sheet_check s ≡ Ok d → generate tables (function_of s) ≡ accepted is → length is ≤ most_in_sheet
 unfolding generate function_of
 generated_few tables s {is} laid e =
     let F = function_of s in

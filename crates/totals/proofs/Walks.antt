@@ -5,7 +5,10 @@ use mathlib.Core.List.{List, ◌∷◌, reverse, reverse-cons}
 use native.Mathlib.Omega.{arith}
 use lib.ListN.{length}
 use Rattle.cells.specs.Refusals.{bad_pack}
-use Rattle.layout.specs.declared.Checked.{Checked}
+use Rattle.std.specs.Prelude.{Ok, Err}
+use Rattle.cells.specs.declared.refusals.Refused.{Refused}
+use Rattle.cells.specs.Refusals.{number_of_refusal}
+use Rattle.layout.specs.Layout.{Checked}
 use Rattle.x86.specs.declared.enums.Instruction.{Instruction}
 use Rattle.codegen.specs.Generation.{Outcome, accepted, refused, checked, compiled}
 use Rattle.generation.specs.Answers.{counted_outcome}
@@ -89,7 +92,7 @@ module _ (tables p : List ℕ) where
   unfolding pack_totals
   good_totals g e = rw (g.is, e)
 
-  pub bad_pack_lem : {n k : ℕ} → pack_check p ≡ Checked.Refused n k → refused n k ≡ pack_totals tables p
+  pub bad_pack_lem : {r : Refused} → pack_check p ≡ Err r → refused (number_of_refusal r.refusal) r.place ≡ pack_totals tables p
   unfolding pack_totals
   bad_pack_lem e = rw e
 
@@ -99,5 +102,5 @@ module _ (tables p : List ℕ) where
   totals_refused {n} {k} e = go (pack_check p) refl e
     where
       go : (x : Checked) → pack_check p ≡ x → checked x (λ u. accepted (taken tables (totals 0 0) (sheets_of p))) ≡ refused n k → n ≡ bad_pack
-      go (Checked.Behind c) f g = absurd (never (sym g))
-      go (Checked.Refused m j) f g = pack_refused p (f ∙ ap (λ (q : ℕ). Checked.Refused q j) (let z = g in cc))
+      go (Ok c) f g = absurd (never (sym g))
+      go (Err r) f g = let l : n ≡ number_of_refusal r.refusal = let z = g in cc in l ∙ pack_refused p f

@@ -1,13 +1,13 @@
 -- Believed: the totals of a pack (docs/FORMAT.md, "Packs"): the records of its sheets that lower, and the number of those that are refused, by 1 to 7. Bad tables
 -- refuse every sheet, and are no refusal of the whole; a bad pack is.
 use Rattle.std.specs.Prelude.{ℕ, ◌+◌, ◌≡◌, List, [], ◌∷◌, reverse, length}
-use Rattle.layout.specs.declared.Checked.{Checked}
+use Rattle.std.specs.Prelude.{Err}
+use Rattle.cells.specs.declared.refusals.Refused.{Refused}
 use Rattle.layout.specs.Layout.{tables_check}
 use Rattle.x86.specs.declared.enums.Instruction.{Instruction}
 use Rattle.codegen.specs.Generation.{Outcome, accepted, refused, compiled}
 use Rattle.pack.specs.Pack.{sheet_count, sheets_of, packed}
 use Rattle.totals.specs.declared.Totals.{Totals}
-use Rattle.totals.specs.declared.Totalled.{Totalled}
 
 abbrev pub totals : ℕ → ℕ → Totals
 totals n m = record { records = n; refused = m }
@@ -43,10 +43,4 @@ NewestFirst = (tables p : List ℕ) → packed p (accepted (taken tables (totals
 
 -- "bad tables refuse every sheet"
 abbrev pub BadTables : Type 0
-BadTables = (tables p : List ℕ) (n k : ℕ) → tables_check tables ≡ Checked.Refused n k → pack_totals tables p ≡ packed p (accepted (totals 0 (sheet_count p)))
-
--- ---- what the code's answer says
-
-abbrev pub totalled_says : Totalled → Outcome Totals
-totalled_says (Totalled.Are t) = accepted t
-totalled_says (Totalled.Refused n place) = refused n place
+BadTables = (tables p : List ℕ) (r : Refused) → tables_check tables ≡ Err r → pack_totals tables p ≡ packed p (accepted (totals 0 (sheet_count p)))

@@ -24,7 +24,7 @@ ghost use Rattle.utils.specs.Makes.{alone, Makes, Ready};
 use crate::context::Context;
 use cells::refusals::Refusal;
 use ir::{Operand as IrOp, VarId};
-use records::{put_extend, put_instruction, put_lea, put_other};
+use records::put_instruction;
 use x86::enums::{BinOp, ExtendOp, Instruction, Operand, Size};
 use x86::mem_address::{Base, MemAddress};
 use x86::register::Register;
@@ -158,12 +158,13 @@ pub fn mov(dst: Operand, src: Operand, size: Size) -> Instruction
 
 // One record brings a source into a register: a string by Lea; an XMM register is loaded by LoadF; one byte by Movzx, or by a four-byte Mov of a constant;
 // the rest by Mov.
+#[tactic(auto, unfolding(codegen::specs::Utils::load_from))]
 pub fn put_load(out: &mut [u8], at: usize, reg: Register, src: Operand, size: Size)
     requires { at + 64 ≤ length out.old }
     ensures { out.new ≡ write out.old at (record_bytes (record_of (load_of reg src size))) }
 {
     if is_string(src) {
-        put_lea(
+        put_instruction(
             out,
             at,
             Instruction::Lea {
@@ -201,7 +202,7 @@ pub fn put_load(out: &mut [u8], at: usize, reg: Register, src: Operand, size: Si
             );
             return;
         }
-        put_extend(
+        put_instruction(
             out,
             at,
             Instruction::Extend {
@@ -226,13 +227,13 @@ pub fn put_load(out: &mut [u8], at: usize, reg: Register, src: Operand, size: Si
     );
 }
 
-// It makes a record that asks for no look-up. The form is any, so that it calls the writer of all.
+// It makes a record that asks for no look-up. Its form is any.
 pub fn one_record(out: &mut [u8], at: usize, i: Instruction, write: bool) -> Result<u64, Refusal>
     requires { Ready write (ok (i ∷ [])) at (length out.old) }
     ensures { Makes write (ok (i ∷ [])) at out.old out.new result }
 {
     if write {
-        put_other(out, at, i);
+        put_instruction(out, at, i);
     }
     Ok(1)
 }

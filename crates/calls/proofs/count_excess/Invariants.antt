@@ -1,8 +1,5 @@
 use Rattle.calls.proofs.Pushes.{Counting}
 use Rattle.calls.proofs.count_excess.Given as goal
 
-abbrev pub invariant-loop-left : goal.invariant-loop-left
-invariant-loop-left l = Counting l.sheet l.count l.from l.left l.cell l.taken
-
-abbrev pub decreases-loop-left : goal.decreases-loop-left
-decreases-loop-left l = l.left
+abbrev pub invariant-loop-i : goal.invariant-loop-i
+invariant-loop-i l = Counting l.arguments.sheet.now l.arguments.count l.arguments.from l.i l.taken

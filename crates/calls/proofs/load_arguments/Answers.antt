@@ -1,56 +1,36 @@
 use mathlib.Core.Path.{refl}
-use native.Mathlib.Omega.{arith}
-use Rattle.utils.proofs.Made.{same_long}
-use Rattle.calls.proofs.Loads.{none_loaded, load_ready, load_made, load_refused, count_ready, all_loaded}
+use Rattle.utils.proofs.Made.{exit_is}
+use Rattle.calls.proofs.Loads.{none_loaded, load_ready, load_made, load_over, load_refused, count_ready, all_loaded}
 use Rattle.calls.proofs.load_arguments.Goals as goal
+use Rattle.calls.proofs.load_arguments.Goals.{then-not-is_beyond+in_ok-load_operand, else-not-is_beyond}
 
-pub loop-left-init : goal.loop-left-init
-loop-left-init c = none_loaded _ _ _ _ _ _ _
+pub loop-i-init : goal.loop-i-init
+loop-i-init c = none_loaded _ _ _ _ _ _ _
 
-pub operand_at-op-requires : goal.operand_at-op-requires
-operand_at-op-requires c = omega arith
+pub load_operand-requires : goal.load_operand-requires
+load_operand-requires c =
+    rw c.register.ensures
+    (load_ready c.loop-i.invariant c.requires.ready c.loop-i-test.true c.at-op.ensures c.is_floating-float.ensures c.is_beyond.ensures c.if-not-is_beyond.true refl)
 
-pub overflow_add-place : goal.overflow_add-place
-overflow_add-place c = omega (arith, c.loop-left.invariant.within.words, c.loop-left.invariant.within.floats)
+pub returns-in_err-load_operand : goal.returns-in_err-load_operand
+returns-in_err-load_operand c =
+    rw (exit_is c.from_residual.ensures.1)
+    (load_refused c.loop-i.invariant c.requires.ready c.loop-i-test.true c.at-op.ensures c.is_floating-float.ensures c.is_beyond.ensures c.if-not-is_beyond.true
+    (rw c.register.ensures at c.in_err-load_operand.ensures))
 
-pub overflow_mul-place : goal.overflow_mul-place
-overflow_mul-place c = omega (arith, c.loop-left.invariant.within.words, c.loop-left.invariant.within.floats)
-
-pub overflow_add-place-in-loop-left : goal.overflow_add-place-in-loop-left
-overflow_add-place-in-loop-left c = omega (arith, c.loop-left.invariant.within.words, c.loop-left.invariant.within.floats)
-
-pub load_argument-requires : goal.load_argument-requires
-load_argument-requires c = load_ready c.loop-left.invariant c.requires.ready c.loop-left-test.true c.operand_at-op.ensures c.is_floating-float.ensures refl
-
-pub shape_of-out-in-Refused : goal.shape_of-out-in-Refused
-shape_of-out-in-Refused c = omega (arith, same_long c.loop-left.invariant.going c.requires.ready)
-
-pub returns-in-Refused : goal.returns-in-Refused
-returns-in-Refused c = load_refused c.loop-left.invariant c.requires.ready c.loop-left-test.true c.operand_at-op.ensures c.is_floating-float.ensures (rw c.in-Refused.is at c.load_argument.ensures)
-
-pub with-taken-requires : goal.with-taken-requires
-with-taken-requires c = omega arith
-
-pub loop-left-preserved : goal.loop-left-preserved
-loop-left-preserved c = load_made c.loop-left.invariant c.requires.ready c.loop-left-test.true c.operand_at-op.ensures c.is_floating-float.ensures refl (rw c.in-Records.is at c.load_argument.ensures) c.with-taken.ensures
-
-pub overflow_add-loads : goal.overflow_add-loads
-overflow_add-loads c = omega (arith, c.loop-left.invariant.within.words, c.loop-left.invariant.within.floats)
-
-pub overflow_mul-loads : goal.overflow_mul-loads
-overflow_mul-loads c = omega (arith, c.loop-left.invariant.within.words, c.loop-left.invariant.within.floats)
-
-pub overflow_add-at : goal.overflow_add-at
-overflow_add-at c = omega (arith, c.loop-left.invariant.within.words, c.loop-left.invariant.within.floats)
+pub loop-i-preserved : goal.loop-i-preserved
+loop-i-preserved c =
+    elim c.if-not-is_beyond.branch [
+      | then-not-is_beyond+in_ok-load_operand w ↦
+          rw w.out-is (load_made c.loop-i.invariant c.requires.ready c.loop-i-test.true c.at-op.ensures c.is_floating-float.ensures c.is_beyond.ensures
+          w.if-not-is_beyond.true refl (rw w.register.ensures at w.in_ok-load_operand.ensures) c.with-taken.ensures)
+      | else-not-is_beyond w ↦
+          rw w.out-is (load_over c.loop-i.invariant c.requires.ready c.loop-i-test.true c.at-op.ensures c.is_floating-float.ensures c.is_beyond.ensures
+          w.if-not-is_beyond.false c.with-taken.ensures)
+    ]
 
 pub one_record-requires : goal.one_record-requires
-one_record-requires c = rw c.mov-counted.ensures (count_ready c.loop-left.invariant c.requires.ready c.loop-left-test.false refl)
-
-pub overflow_add-result : goal.overflow_add-result
-overflow_add-result c = omega (arith, c.loop-left.invariant.within.words, c.loop-left.invariant.within.floats)
-
-pub shape_of-out : goal.shape_of-out
-shape_of-out c = omega (arith, same_long c.loop-left.invariant.going c.requires.ready)
+one_record-requires c = rw c.mov-counted.ensures (count_ready c.loop-i.invariant c.requires.ready c.loop-i-test.false refl)
 
 pub returns : goal.returns
-returns c = all_loaded c.loop-left.invariant c.requires.ready c.loop-left-test.false refl (rw c.mov-counted.ensures at c.one_record.ensures)
+returns c = all_loaded c.loop-i.invariant c.requires.ready c.loop-i-test.false refl (rw c.mov-counted.ensures at c.one_record.ensures)

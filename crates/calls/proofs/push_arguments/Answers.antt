@@ -1,33 +1,33 @@
 use mathlib.Core.Path.{refl}
-use native.Mathlib.Omega.{arith}
-use Rattle.utils.proofs.Made.{same_long}
-use Rattle.utils.proofs.Beyond.{none_passed, turn_ready, turn_made, turn_refused, all_passed}
+use Rattle.utils.proofs.Made.{exit_is}
+use Rattle.utils.proofs.Beyond.{none_passed, turn_ready, turn_made, turn_over, turn_refused, all_passed}
 use Rattle.calls.proofs.Pushes.{pushing}
 use Rattle.calls.proofs.push_arguments.Goals as goal
+use Rattle.calls.proofs.push_arguments.Goals.{then-is_beyond+in_ok-push_one, else-is_beyond}
 
-pub loop-left-init : goal.loop-left-init
-loop-left-init c = none_passed (pushing _ _) _ _ _ _ _
+pub loop-i-init : goal.loop-i-init
+loop-i-init c = none_passed (pushing _ _) _ _ _ _ _
 
-pub operand_at-op-requires : goal.operand_at-op-requires
-operand_at-op-requires c = omega arith
+pub push_one-requires-clause-ready : goal.push_one-requires-clause-ready
+push_one-requires-clause-ready c =
+    turn_ready (pushing _ _) c.loop-i.invariant c.requires.ready c.loop-i-test.true c.at-op.ensures c.is_floating-float.ensures c.is_beyond.ensures c.if-is_beyond.true refl
 
-pub push_argument-requires : goal.push_argument-requires
-push_argument-requires c = record { stack_bound = omega arith; at_bound = omega arith; ready = turn_ready (pushing _ _) c.loop-left.invariant c.requires.ready c.loop-left-test.true c.operand_at-op.ensures c.is_floating-float.ensures refl }
+pub returns-in_err-push_one : goal.returns-in_err-push_one
+returns-in_err-push_one c =
+    rw (exit_is c.from_residual.ensures.1)
+    (turn_refused (pushing _ _) c.loop-i.invariant c.requires.ready c.loop-i-test.true c.at-op.ensures c.is_floating-float.ensures c.is_beyond.ensures c.if-is_beyond.true
+    c.in_err-push_one.ensures)
 
-pub shape_of-out-in-Refused : goal.shape_of-out-in-Refused
-shape_of-out-in-Refused c = omega (arith, same_long c.loop-left.invariant.going c.requires.ready)
-
-pub returns-in-Refused : goal.returns-in-Refused
-returns-in-Refused c = turn_refused (pushing _ _) c.loop-left.invariant c.requires.ready c.loop-left-test.true c.operand_at-op.ensures c.is_floating-float.ensures (rw c.in-Refused.is at c.push_argument.ensures)
-
-pub with-taken-requires : goal.with-taken-requires
-with-taken-requires c = omega arith
-
-pub loop-left-preserved : goal.loop-left-preserved
-loop-left-preserved c = turn_made (pushing _ _) c.loop-left.invariant c.requires.ready c.loop-left-test.true c.operand_at-op.ensures c.is_floating-float.ensures refl (rw c.in-Records.is at c.push_argument.ensures) c.with-taken.ensures
-
-pub shape_of-out : goal.shape_of-out
-shape_of-out c = omega (arith, same_long c.loop-left.invariant.going c.requires.ready)
+pub loop-i-preserved : goal.loop-i-preserved
+loop-i-preserved c =
+    elim c.if-is_beyond.branch [
+      | then-is_beyond+in_ok-push_one w ↦
+          rw w.out-is (turn_made (pushing _ _) c.loop-i.invariant c.requires.ready c.loop-i-test.true c.at-op.ensures c.is_floating-float.ensures c.is_beyond.ensures
+          w.if-is_beyond.true refl w.in_ok-push_one.ensures c.with-taken.ensures)
+      | else-is_beyond w ↦
+          rw w.out-is (turn_over (pushing _ _) c.loop-i.invariant c.requires.ready c.loop-i-test.true c.at-op.ensures c.is_floating-float.ensures c.is_beyond.ensures
+          w.if-is_beyond.false c.with-taken.ensures)
+    ]
 
 pub returns : goal.returns
-returns c = all_passed (pushing _ _) c.loop-left.invariant c.requires.ready c.loop-left-test.false
+returns c = all_passed (pushing _ _) c.loop-i.invariant c.requires.ready c.loop-i-test.false

@@ -1,11 +1,8 @@
-use Rattle.utils.specs.Answers.{lent}
+use Rattle.utils.specs.Answers.{held}
 use Rattle.utils.proofs.Beyond.{Passing}
 use Rattle.calls.proofs.Pushes.{pushing}
 use Rattle.calls.proofs.push_arguments.Given as goal
 
-abbrev pub invariant-loop-left : goal.invariant-loop-left
-invariant-loop-left l =
-    Passing (pushing (lent l.tables l.offsets) l.sheet) l.write l.count l.from l.at l.initial.out l.left l.cell l.taken l.out
-
-abbrev pub decreases-loop-left : goal.decreases-loop-left
-decreases-loop-left l = l.left
+abbrev pub invariant-loop-i : goal.invariant-loop-i
+invariant-loop-i l =
+    Passing (pushing (held l.context) l.arguments.sheet.now) l.write l.arguments.count l.arguments.from l.at l.initial.out l.i l.taken l.out

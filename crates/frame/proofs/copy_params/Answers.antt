@@ -1,37 +1,36 @@
 use mathlib.Core.Path.{refl}
-use native.Mathlib.Omega.{arith}
-use Rattle.utils.proofs.Made.{same_long}
+use Rattle.utils.proofs.Made.{exit_is}
 use Rattle.utils.proofs.Rows.{none_made}
-use Rattle.utils.proofs.Beyond.{none_passed, turn_ready, turn_made, turn_refused, all_passed}
+use Rattle.utils.proofs.Beyond.{none_passed, turn_ready, turn_made, turn_over, turn_refused, all_passed}
 use Rattle.frame.proofs.Copies.{copying, none_copied}
 use Rattle.frame.proofs.copy_params.Goals as goal
+use Rattle.frame.proofs.copy_params.Goals.{then-is_beyond+in_ok-copy_one, else-is_beyond}
 
-pub returns-then-n-le6 : goal.returns-then-n-le6
-returns-then-n-le6 c = none_made (none_copied _ _ _ _ c.if-n-le6.true)
+pub returns-then-parameters-le6 : goal.returns-then-parameters-le6
+returns-then-parameters-le6 c = none_made (none_copied _ _ _ _ c.if-parameters-le6.true)
 
-pub loop-left-init : goal.loop-left-init
-loop-left-init c = none_passed (copying _ _) _ _ _ _ _
+pub loop-i-init : goal.loop-i-init
+loop-i-init c = none_passed (copying _ _) _ _ _ _ _
 
-pub var_at-p-requires : goal.var_at-p-requires
-var_at-p-requires c = omega arith
+pub copy_one-requires-clause-ready : goal.copy_one-requires-clause-ready
+copy_one-requires-clause-ready c = turn_ready (copying _ _) c.loop-i.invariant c.requires.ready c.loop-i-test.true c.at-p.ensures c.is_float-float.ensures c.is_beyond.ensures c.if-is_beyond.true refl
 
-pub copy_param-requires : goal.copy_param-requires
-copy_param-requires c = record { stack_le_most_parameters = omega arith; ready = turn_ready (copying _ _) c.loop-left.invariant c.requires.ready c.loop-left-test.true c.var_at-p.ensures c.is_float-float.ensures refl }
+pub returns-in_err-copy_one : goal.returns-in_err-copy_one
+returns-in_err-copy_one c =
+    rw (exit_is c.from_residual.ensures.1)
+    (turn_refused (copying _ _) c.loop-i.invariant c.requires.ready c.loop-i-test.true c.at-p.ensures c.is_float-float.ensures c.is_beyond.ensures c.if-is_beyond.true
+    (rw c.in_err-copy_one.was at c.copy_one.ensures))
 
-pub shape_of-out-in-Refused : goal.shape_of-out-in-Refused
-shape_of-out-in-Refused c = omega (arith, same_long c.loop-left.invariant.going c.requires.ready)
-
-pub returns-in-Refused : goal.returns-in-Refused
-returns-in-Refused c = turn_refused (copying _ _) c.loop-left.invariant c.requires.ready c.loop-left-test.true c.var_at-p.ensures c.is_float-float.ensures (rw c.in-Refused.is at c.copy_param.ensures)
-
-pub with-taken-requires : goal.with-taken-requires
-with-taken-requires c = omega arith
-
-pub loop-left-preserved : goal.loop-left-preserved
-loop-left-preserved c = turn_made (copying _ _) c.loop-left.invariant c.requires.ready c.loop-left-test.true c.var_at-p.ensures c.is_float-float.ensures refl (rw c.in-Records.is at c.copy_param.ensures) c.with-taken.ensures
-
-pub shape_of-out : goal.shape_of-out
-shape_of-out c = omega (arith, same_long c.loop-left.invariant.going c.requires.ready)
+pub loop-i-preserved : goal.loop-i-preserved
+loop-i-preserved c =
+    elim c.if-is_beyond.branch [
+      | then-is_beyond+in_ok-copy_one w ↦
+          rw w.out-is (turn_made (copying _ _) c.loop-i.invariant c.requires.ready c.loop-i-test.true c.at-p.ensures c.is_float-float.ensures c.is_beyond.ensures w.if-is_beyond.true
+          refl (rw w.in_ok-copy_one.was at w.copy_one.ensures) c.with-taken.ensures)
+      | else-is_beyond w ↦
+          rw w.out-is (turn_over (copying _ _) c.loop-i.invariant c.requires.ready c.loop-i-test.true c.at-p.ensures c.is_float-float.ensures c.is_beyond.ensures w.if-is_beyond.false
+          c.with-taken.ensures)
+    ]
 
 pub returns : goal.returns
-returns c = all_passed (copying _ _) c.loop-left.invariant c.requires.ready c.loop-left-test.false
+returns c = all_passed (copying _ _) c.loop-i.invariant c.requires.ready c.loop-i-test.false

@@ -1,11 +1,8 @@
-use Rattle.utils.specs.Answers.{lent}
+use Rattle.utils.specs.Answers.{held}
 use Rattle.utils.proofs.Beyond.{Passing}
 use Rattle.frame.proofs.Copies.{copying}
 use Rattle.frame.proofs.copy_params.Given as goal
 
-abbrev pub invariant-loop-left : goal.invariant-loop-left
-invariant-loop-left l =
-    Passing (copying (lent l.tables l.offsets) l.sheet) l.write l.n l.from l.at l.initial.out l.left l.cell l.taken l.out
-
-abbrev pub decreases-loop-left : goal.decreases-loop-left
-decreases-loop-left l = l.left
+abbrev pub invariant-loop-i : goal.invariant-loop-i
+invariant-loop-i l =
+    Passing (copying (held l.context) l.parameters.sheet.now) l.write l.parameters.count l.parameters.from l.at l.initial.out l.i l.taken l.out

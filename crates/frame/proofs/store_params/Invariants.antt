@@ -1,10 +1,7 @@
-use Rattle.utils.specs.Answers.{lent}
+use Rattle.utils.specs.Answers.{held}
 use Rattle.frame.proofs.Stores.{Storing}
 use Rattle.frame.proofs.store_params.Given as goal
 
-abbrev pub invariant-loop-left : goal.invariant-loop-left
-invariant-loop-left l =
-    Storing l.write (lent l.tables l.offsets) l.float l.sheet l.n l.from l.at l.initial.out l.left l.cell l.k l.out
-
-abbrev pub decreases-loop-left : goal.decreases-loop-left
-decreases-loop-left l = l.left
+abbrev pub invariant-loop-i : goal.invariant-loop-i
+invariant-loop-i l =
+    Storing l.write (held l.context) l.float l.parameters.sheet.now l.parameters.count l.parameters.from l.at l.initial.out l.i l.k l.out

@@ -16,4 +16,4 @@ pub returns : goal.returns
 returns c =
     let a = c.args.pack in
     let e = c.pair_at.ensures in
-    record { result_value = c.part.ensures.result_value ∙ ap (part_at a.now) e; ref_ptr_value = c.part.ensures.ref_ptr_value ∙ ap (λ (pair : Pair). moved a.ref_ptr (pair.offset * 8)) e }
+    record { part = c.part.ensures.part ∙ ap (part_at a.now) e; own = c.part.ensures.own ∙ ap (λ (pair : Pair). moved a.ref_ptr (pair.offset * 8)) e }

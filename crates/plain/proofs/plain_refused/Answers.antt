@@ -1,25 +1,27 @@
-use Rattle.std.proofs.Common.{sym, ◌∙◌, arith}
-use Rattle.plain.proofs.Answered.{refuses_laid, refuses_within, refuses_named, says_layout, says_head, says_place, says_before}
+use Rattle.std.proofs.Common.{◌≤◌, sym, arith, ltb-true}
+use borrow.Author.Tests.{ltb-false}
+use Rattle.cells.specs.Refusals.{number_of_refusal}
+use Rattle.plain.proofs.Answered.{refuses_laid, refuses_within, refuses_named, says_layout, says_head, says_body}
 use Rattle.plain.proofs.plain_refused.Goals as goal
+use Rattle.plain.proofs.plain_refused.Goals.{then-is_of_layout-via-then-is_of_layout, then-is_of_layout-via-else-is_of_layout+then-refused-eq0}
 
-pub returns-then-number-lt4 : goal.returns-then-number-lt4
-returns-then-number-lt4 c = λ t e. says_layout t _ _ _ e c.if-number-lt4.true
+pub returns-then-is_of_layout : goal.returns-then-is_of_layout
+returns-then-is_of_layout c = λ t e.
+    elim c.then-is_of_layout.branch [
+      | then-is_of_layout-via-then-is_of_layout w ↦ says_layout t _ _ _ e (ltb-true _ _ (sym (w.if-is_of_layout.ensures)))
+      | then-is_of_layout-via-else-is_of_layout+then-refused-eq0 w ↦ says_head t _ _ _ e (ltb-false _ _ (sym (w.if-is_of_layout.ensures))) w.if-refused-eq0.true
+    ]
 
-pub returns-then-place-eq0 : goal.returns-then-place-eq0
-returns-then-place-eq0 c = λ t e. says_head t _ _ _ e c.if-number-lt4.false c.if-place-eq0.true
+pub conditions-requires-clause-laid : goal.conditions-requires-clause-laid
+conditions-requires-clause-laid c = refuses_laid c.requires (ltb-false _ _ (sym c.if-is_of_layout.ensures))
 
-pub conditions-requires : goal.conditions-requires
-conditions-requires c =
-    let p = c.requires in
-    let h = c.if-number-lt4.false in
-    record { laid = refuses_laid p h; n_bound = omega (arith, refuses_within p h); sheet_value = refuses_named p h }
+pub conditions-requires-clause-n_bound : goal.conditions-requires-clause-n_bound
+conditions-requires-clause-n_bound c = omega (arith, refuses_within c.requires (ltb-false _ _ (sym c.if-is_of_layout.ensures)))
 
-pub returns-in-Yes : goal.returns-in-Yes
-returns-in-Yes c = λ t e.
-    says_place t _ _ _ e c.if-number-lt4.false (omega (arith, c.if-place-eq0.false))
-    (sym c.in-Yes.is ∙ c.conditions.ensures)
+pub conditions-requires-clause-named : goal.conditions-requires-clause-named
+conditions-requires-clause-named c = refuses_named c.requires (ltb-false _ _ (sym c.if-is_of_layout.ensures))
 
-pub returns-in-No : goal.returns-in-No
-returns-in-No c = λ t e.
-    says_before t _ _ _ e c.if-number-lt4.false (omega (arith, c.if-place-eq0.false)) _
-    (sym c.in-No.is ∙ c.conditions.ensures)
+pub returns : goal.returns
+returns c = λ t e.
+    let h : 4 ≤ number_of_refusal c.args.refused.refusal = ltb-false _ _ (sym (c.if-is_of_layout.ensures)) in
+    rw c.or.ensures (says_body t _ _ _ e h (omega (arith, c.if-refused-eq0.false)) _ c.conditions.ensures)

@@ -6,5 +6,5 @@ pub returns-then-write : goal.returns-then-write
 returns-then-write c =
     record {
       says = refl;
-      bytes = rw c.if-write.true (puts (first c.put_other.ensures done) (c.requires.room c.if-write.true));
+      bytes = rw c.if-write.true (puts (first c.put_instruction.ensures done) (c.requires.room c.if-write.true));
     }

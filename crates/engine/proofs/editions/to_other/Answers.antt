@@ -2,26 +2,26 @@ use mathlib.Core.Path.{refl, sym, ap, ◌∙◌}
 use mathlib.Core.List.Memᴰ
 use lib.ListN.{length}
 use Rattle.cells.proofs.Outcomes.{accepted_numbers, refused_numbers, refused_is}
-use Rattle.edition.specs.Answers.{answer_says}
+use Rattle.cells.specs.Outcomes.{outcome}
 use Rattle.edition.specs.Editions.{converted}
 use Rattle.edition.proofs.Numbers.{refused_by}
 use Rattle.engine.proofs.Numbers.{no_conversion}
 use Rattle.engine.proofs.editions.to_other.Goals as goal
 
-pub returns-in-Accepted : goal.returns-in-Accepted
-returns-in-Accepted c =
+pub returns-in-Ok : goal.returns-in-Ok
+returns-in-Ok c =
     let a = c.args in
     let o = converted a.e a.sheet.now (length a.out.now) in
-    let g = c.in-Accepted.is in
-    let v = accepted_numbers length o (sym (ap answer_says g) ∙ c.convert.ensures.result_value) in
+    let g = c.in-Ok.is in
+    let v = accepted_numbers length o (sym (ap outcome g) ∙ c.convert.ensures.result_value) in
     record { number = v.0; known = Memᴰ.head refl; place = v.1; bytes = c.convert.ensures.out_after; lent = refl; kept = λ z. c.convert.ensures.by_index _ g; means = λ z. c.convert.ensures.by_index_2 _ g }
 
-pub returns-in-Refused : goal.returns-in-Refused
-returns-in-Refused c =
+pub returns-in-Err : goal.returns-in-Err
+returns-in-Err c =
     let a = c.args in
     let o = converted a.e a.sheet.now (length a.out.now) in
-    let g = c.in-Refused.is in
-    let e = sym (ap answer_says g) ∙ c.convert.ensures.result_value in
+    let g = c.in-Err.is in
+    let e = sym (ap outcome g) ∙ c.convert.ensures.result_value in
     let v = refused_numbers length o e in
     let k = refused_by a.e a.sheet.now (length a.out.now) (refused_is length o e) in
-    record { number = v.0; known = Memᴰ.tail k; place = v.1; bytes = c.convert.ensures.out_after; lent = refl; kept = λ z. no_conversion k z; means = λ z. no_conversion k z }
+    record { number = c.from.ensures ∙ v.0; known = Memᴰ.tail k; place = v.1; bytes = c.convert.ensures.out_after; lent = refl; kept = λ z. no_conversion k z; means = λ z. no_conversion k z }

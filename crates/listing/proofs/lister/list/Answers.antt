@@ -8,38 +8,38 @@ use Rattle.listing.proofs.lister.list.Goals as goal
 -- where the input has parts, they lie in it
 
 pub overflow_mul-end : goal.overflow_mul-end
-overflow_mul-end c = omega (arith, parts_fit _ _ (sym c.split.ensures ∙ c.in-Tables.is), c.well_formed)
+overflow_mul-end c = omega (arith, parts_fit _ _ (sym c.split.ensures ∙ c.in-Ok.is), c.well_formed)
 
 pub overflow_add-end : goal.overflow_add-end
-overflow_add-end c = omega (arith, parts_fit _ _ (sym c.split.ensures ∙ c.in-Tables.is), c.well_formed)
+overflow_add-end c = omega (arith, parts_fit _ _ (sym c.split.ensures ∙ c.in-Ok.is), c.well_formed)
 
 pub slice_bounds-list_parts-end : goal.slice_bounds-list_parts-end
-slice_bounds-list_parts-end c = omega (arith, parts_fit _ _ (sym c.split.ensures ∙ c.in-Tables.is))
+slice_bounds-list_parts-end c = omega (arith, parts_fit _ _ (sym c.split.ensures ∙ c.in-Ok.is))
 
-pub slice_bounds-list_parts-count-in-Tables : goal.slice_bounds-list_parts-count-in-Tables
-slice_bounds-list_parts-count-in-Tables c = omega (arith, parts_fit _ _ (sym c.split.ensures ∙ c.in-Tables.is))
+pub slice_bounds-list_parts-count-in-Ok : goal.slice_bounds-list_parts-count-in-Ok
+slice_bounds-list_parts-count-in-Ok c = omega (arith, parts_fit _ _ (sym c.split.ensures ∙ c.in-Ok.is))
 
-pub slice_bounds-list_parts-start-in-Tables : goal.slice_bounds-list_parts-start-in-Tables
-slice_bounds-list_parts-start-in-Tables c = omega (arith, parts_fit _ _ (sym c.split.ensures ∙ c.in-Tables.is))
+pub slice_bounds-list_parts-start-in-Ok : goal.slice_bounds-list_parts-start-in-Ok
+slice_bounds-list_parts-start-in-Ok c = omega (arith, parts_fit _ _ (sym c.split.ensures ∙ c.in-Ok.is))
 
-pub returns-in-TooLong : goal.returns-in-TooLong
+pub returns-in-Err-TooLong : goal.returns-in-Err-TooLong
 unfolding listing_records
-returns-in-TooLong c =
-    let e = sym c.split.ensures ∙ c.in-TooLong.is in
+returns-in-Err-TooLong c =
+    let e = sym c.split.ensures ∙ c.in-Err-TooLong.is in
     let text = whole _ c.too_long_text.ensures (too_long c.args.input.now e) (omega (arith, c.well_formed)) in
     record { records_after = rw e; put = text.0; counts = text.1 }
 
-pub returns-in-NoTables : goal.returns-in-NoTables
+pub returns-in-Err-NoTables : goal.returns-in-Err-NoTables
 unfolding listing_records
-returns-in-NoTables c =
-    let e = sym c.split.ensures ∙ c.in-NoTables.is in
+returns-in-Err-NoTables c =
+    let e = sym c.split.ensures ∙ c.in-Err-NoTables.is in
     let text = whole _ c.refused_text.ensures (no_tables c.args.input.now e) (omega (arith, refused_length 1 0, c.well_formed)) in
     record { records_after = rw e; put = text.0; counts = text.1 }
 
-pub returns-in-Tables : goal.returns-in-Tables
-returns-in-Tables c =
-    let e = sym c.split.ensures ∙ c.in-Tables.is in
-    let n = c.in-Tables.n in
+pub returns-in-Ok : goal.returns-in-Ok
+returns-in-Ok c =
+    let e = sym c.split.ensures ∙ c.in-Ok.is in
+    let n = c.in-Ok.n in
     record {
       records_after = parts_records_lem c.args.input.now n c.args.records.now e c.list_parts.ensures.records_after;
       put = rw (parts_text c.args.input.now n e) at c.list_parts.ensures.put;

@@ -1,5 +1,5 @@
 use Rattle.std.proofs.Common.{sym, ap, ◌∙◌, rules, arith, length-append}
-use Rattle.generation.specs.Answers.{answer_says}
+use Rattle.cells.specs.Outcomes.{outcome}
 use Rattle.text.proofs.Pieces.{ok_length, refused_length, whole}
 use Rattle.listing.proofs.Listing.{accepted_lists, refused_lists, left}
 use Rattle.listing.proofs.lister.list_parts.Goals as goal
@@ -8,27 +8,27 @@ use Rattle.listing.proofs.lister.list_parts.Goals as goal
 pub ok_text-requires : goal.ok_text-requires
 ok_text-requires c =
     let l = accepted_lists c.args.tables.now c.args.sheet.now c.args.records.now (omega (arith, c.well_formed)) (omega (arith, c.generate.auto.out))
-    (ap answer_says (sym c.in-Accepted.is) ∙ c.generate.ensures.result_value) c.generate.ensures.out_after in
+    (ap outcome (sym c.in-Ok.is) ∙ c.generate.ensures.answer) c.generate.ensures.bytes in
     record { n_in_bounds = l.there; n_in_bounds_2 = omega (arith, l.room, c.well_formed) }
 
-pub returns-in-Accepted : goal.returns-in-Accepted
-returns-in-Accepted c =
+pub returns-in-Ok : goal.returns-in-Ok
+returns-in-Ok c =
     let l = accepted_lists c.args.tables.now c.args.sheet.now c.args.records.now (omega (arith, c.well_formed)) (omega (arith, c.generate.auto.out))
-    (ap answer_says (sym c.in-Accepted.is) ∙ c.generate.ensures.result_value) c.generate.ensures.out_after in
-    let text = whole _ c.ok_text.ensures l.text (simp length-append (omega (arith, ok_length c.in-Accepted.n, l.room, c.well_formed))) in
+    (ap outcome (sym c.in-Ok.is) ∙ c.generate.ensures.answer) c.generate.ensures.bytes in
+    let text = whole _ c.ok_text.ensures l.text (simp length-append (omega (arith, ok_length c.in-Ok.n, l.room, c.well_formed))) in
     record {
-      records_after = left c.args.tables.now c.args.sheet.now c.args.records.now (omega (arith, c.well_formed)) c.generate.ensures.out_after;
+      records_after = left c.args.tables.now c.args.sheet.now c.args.records.now (omega (arith, c.well_formed)) c.generate.ensures.bytes;
       put = text.0;
       counts = text.1;
     }
 
-pub returns-in-Refused : goal.returns-in-Refused
-returns-in-Refused c =
+pub returns-in-Err : goal.returns-in-Err
+returns-in-Err c =
     let line = refused_lists c.args.tables.now c.args.sheet.now c.args.records.now (omega (arith, c.well_formed))
-    (ap answer_says (sym c.in-Refused.is) ∙ c.generate.ensures.result_value) in
-    let text = whole _ c.refused_text.ensures line (omega (arith, refused_length c.in-Refused.n c.in-Refused.place, c.well_formed)) in
+    (ap outcome (sym c.in-Err.is) ∙ c.generate.ensures.answer) in
+    let text = whole _ c.refused_text.ensures line (omega (arith, refused_length c.in-Err.n c.in-Err.place, c.well_formed)) in
     record {
-      records_after = left c.args.tables.now c.args.sheet.now c.args.records.now (omega (arith, c.well_formed)) c.generate.ensures.out_after;
+      records_after = left c.args.tables.now c.args.sheet.now c.args.records.now (omega (arith, c.well_formed)) c.generate.ensures.bytes;
       put = text.0;
       counts = text.1;
     }

@@ -1,36 +1,28 @@
-use Rattle.layout.proofs.Walk.{has_header, has_params, walk_here}
-use Rattle.plain.proofs.Counting.{none_counted, room_left, one_counted, all_counted}
+use Rattle.layout.proofs.Walk.{has_header, has_params}
+use Rattle.plain.proofs.Counting.{line_there, room_left, none_counted, one_counted, all_counted}
 use Rattle.std.proofs.Common.{arith}
 use Rattle.plain.proofs.body.count_labels.Goals as goal
 
-pub cell_at-left-requires : goal.cell_at-left-requires
-cell_at-left-requires c = omega (arith, has_header c.requires.laid)
-
 pub body_from-cell-requires : goal.body_from-cell-requires
-body_from-cell-requires c = has_params c.requires.laid
+body_from-cell-requires c = has_params c.requires
 
-pub loop-left-init : goal.loop-left-init
-loop-left-init c = rw (c.cell_at-left.ensures, c.body_from-cell.ensures) (none_counted c.requires.laid c.requires.counts)
+pub cell_at-end-requires : goal.cell_at-end-requires
+cell_at-end-requires c = omega (arith, has_header c.requires)
 
-pub instr_at-instr-requires : goal.instr_at-instr-requires
-instr_at-instr-requires c = (walk_here _ _ c.loop-left.invariant.walk c.loop-left-test.true).0
+pub loop-init : goal.loop-init
+loop-init c = rw c.body_from-cell.ensures (none_counted c.requires)
+
+pub instr_at-requires : goal.instr_at-requires
+instr_at-requires c = (line_there c.loop.invariant.walked (omega arith)).0
 
 pub count_label-requires : goal.count_label-requires
-count_label-requires c = room_left c.loop-left.invariant
+count_label-requires c = room_left c.loop.invariant.walked (omega arith) c.requires
 
 pub behind-cell-requires : goal.behind-cell-requires
-behind-cell-requires c = (walk_here _ _ c.loop-left.invariant.walk c.loop-left-test.true).1
+behind-cell-requires c = (line_there c.loop.invariant.walked (omega arith)).1
 
-pub overflow_sub-left : goal.overflow_sub-left
-overflow_sub-left c = omega (arith, c.loop-left-test.true)
-
-pub loop-left-smaller : goal.loop-left-smaller
-loop-left-smaller c = omega (arith, c.loop-left-test.true)
-
-pub loop-left-preserved : goal.loop-left-preserved
-loop-left-preserved c =
-    rw (c.behind-cell.ensures, c.count_label.ensures, c.instr_at-instr.ensures)
-    (one_counted c.loop-left.invariant c.loop-left-test.true)
+pub loop-preserved : goal.loop-preserved
+loop-preserved c = rw (c.behind-cell.ensures, c.count_label.ensures, c.instr_at.ensures) (one_counted c.loop.invariant (omega arith))
 
 pub returns : goal.returns
-returns c = all_counted c.loop-left.invariant c.loop-left-test.false
+returns c = all_counted c.loop.invariant (omega arith)
