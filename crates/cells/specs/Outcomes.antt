@@ -1,7 +1,6 @@
 -- Believed: the answer to a call: what was asked for, or a refusal by its number and place (docs/FORMAT.md, "Refusals"). A place is a cell, an instruction's
 -- number from 1 and 0 before the body, or how much is needed.
 use Rattle.std.specs.Prelude.{ℕ, Bool, true, false, Result, Ok, Err}
-use Rattle.std.proofs.Math.Option.{Option, none, some}
 use Rattle.cells.specs.declared.refusals.Refused.{Refused}
 use Rattle.cells.specs.Refusals.{number_of_refusal}
 
@@ -19,11 +18,6 @@ refused n place >>= f = refused n place
 abbrev pub require : Bool → ℕ → ℕ → Outcome (Unit {0})
 require true n place = accepted tt
 require false n place = refused n place
-
--- refused by this number at the place that was found, if one was
-abbrev pub unless : ℕ → Option ℕ → Outcome (Unit {0})
-unless n none = accepted tt
-unless n (some place) = refused n place
 
 -- the same answer with a number for what was asked for
 abbrev pub amount : {A : Type 0} → (A → ℕ) → Outcome A → Outcome ℕ

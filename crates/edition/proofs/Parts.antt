@@ -2,7 +2,7 @@
 -- with its entry agrees, and what is carried back is what it was.
 use Prim.Native.Nat.{ℕ, zero, suc, ◌+◌, ◌*◌, ◌<◌}
 use mathlib.Core.Path.{◌≡◌, refl, sym, ap, ap₂, ◌∙◌}
-use mathlib.Core.Bool.{Bool, true, false, cond, ◌&&◌}
+use mathlib.Core.Bool.{Bool, true, false, cond}
 use mathlib.Core.List.{List, [], ◌∷◌, ◌++◌}
 use native.Mathlib.Omega.{arith}
 use native.Mathlib.Nat.{mul-suc}
@@ -16,7 +16,7 @@ use Rattle.std.specs.Prelude.{Some, None, Ok}
 use Rattle.cells.specs.declared.refusals.Refusal.{Refusal}
 use Rattle.layout.specs.declared.Edition.{Edition}
 use Rattle.layout.specs.Layout.{Checked, refuse, cursor, zeros_check, fields_check, type_check, own_in, var_in, param_in, param_width, holds_var, first_field, flag_field, operand_in, operands_in, dest_in, side_in, params_in}
-use Rattle.layout.proofs.Passed.{Held, apart, within_passed, passed_at}
+use Rattle.layout.proofs.Passed.{Held, within_passed, passed_at}
 use Rattle.layout.proofs.Laws.{operand_right, param_right}
 use Rattle.edition.specs.Editions.{id_if, operand_id, side_id, operand_ids, param_ids, entry_at, own_agrees, agrees, own_cells, var_cells, param_cells, operand_cells, dest_cells, side_cells, operands_cells, params_cells, stray_in}
 use Rattle.cells.proofs.Lists.{Holds, holds_append, from_there, from_split}

@@ -1,5 +1,5 @@
 -- Believed: edition 2 of a sheet and the conversion both ways (docs/FORMAT.md, "Edition 2"; M-109). The layout of either edition, refusals 2 and 3, is
--- `sheetIn` of layout/specs/Layout.antt.
+-- `sheet_in` of layout/specs/Layout.antt.
 use Rattle.std.specs.Prelude.{ℕ, zero, suc, ◌+◌, ◌*◌, List, [], ◌∷◌, ◌++◌, Bool, true, cond, ◌&&◌, length, drop, ltb, eqb, Option, Some, None}
 use Rattle.cells.specs.Cells.{cell_at, cells_from, cell_bytes}
 use Rattle.cells.specs.Outcomes.{Outcome, accepted, refused, ◌>>=◌, outcome}

@@ -1,5 +1,5 @@
 -- Believed: the function that a sheet of either edition holds, and that a conversion keeps it (docs/FORMAT.md, "Edition 2"; M-109). Of edition 1 it is ir's
--- `functionOf`, which the lowering reads; in edition 2 the type of a variable is its entry's.
+-- `function_of`, which the lowering reads; in edition 2 the type of a variable is its entry's.
 use Rattle.std.specs.Prelude.{ℕ, zero, suc, ◌+◌, ◌*◌, ◌≡◌, List, [], ◌∷◌, map, take, Option, Some, None}
 use Rattle.cells.specs.Cells.{cell_at, cell_bytes, Bytes}
 use Rattle.cells.specs.Outcomes.{accepted}

@@ -1,4 +1,4 @@
--- Auxiliary: what a walk over a sheet asks of it. `sheetIn` (layout/specs/Layout.antt) and `strayIn` give it, by `laid-present` and `entered-All` (proofs/Written.antt).
+-- Auxiliary: what a walk over a sheet asks of it. `sheet_in` (layout/specs/Layout.antt) and `stray_in` give it, by `laid_present` and `entered_all` (proofs/Written.antt).
 use Rattle.std.specs.Prelude.{ℕ, zero, suc, ◌<◌, ◌≤◌, List, [], ◌∷◌}
 use Rattle.cells.specs.Cells.{cells, cell_at}
 use Rattle.ir.specs.Function.{behind}

@@ -1,5 +1,5 @@
 // The parts of a sheet are written in the other edition, each into the bytes that it fills.
-ghost use Rattle.std.specs.Prelude.{◌≡◌, ◌+◌, ◌*◌, ◌≤◌, ◌<◌, length};
+ghost use Rattle.std.specs.Prelude.{◌≡◌, [], ◌∷◌, ◌+◌, ◌*◌, ◌≤◌, ◌<◌, length};
 ghost use Rattle.cells.specs.Cells.{cells, cell_at, cells_from, cell_bytes};
 ghost use Rattle.ir.specs.Function.{arguments_at, behind};
 ghost use Rattle.layout.specs.Layout.{param_width, LaidIn};
@@ -11,6 +11,15 @@ use cells::cell_at;
 use ir::read::{Sheet, behind};
 use layout::Edition;
 use layout::instrs::{has_dest, has_left};
+
+// It writes one cell.
+#[tactic(auto, unfolding(cells::specs::Cells::cell_bytes, cells::specs::Cells::bytes_of))]
+fn put_cell(v: u64, out: &mut [u8])
+    requires { length out.old ≡ 8 }
+    ensures { out.new ≡ cell_bytes (v ∷ []) }
+{
+    out.copy_from_slice(&v.to_le_bytes());
+}
 
 // It copies the `n` cells from cell k on.
 fn copy_cells(s: &[u8], k: usize, n: usize, out: &mut [u8])
@@ -30,24 +39,27 @@ fn put_own(f: Edition, sheet: &Sheet, id: u64, out: &mut [u8])
 {
     match f {
         Edition::First => copy_cells(sheet.bytes, 6 + 2 * id as usize, 2, out),
-        Edition::Second => out.fill(0),
+        Edition::Second => out.copy_from_slice(&[0; 16]),
     }
 }
 
 // It writes the variable whose id is in cell k.
-#[tactic(auto, using(crate::proofs::Written::behind_cell), unfolding(cells::specs::Cells::cells_from, crate::specs::Editions::var_cells))]
+#[tactic(auto, using(crate::proofs::Written::behind_cell), unfolding(crate::specs::Editions::var_cells))]
 fn put_var(f: Edition, sheet: &Sheet, k: usize, out: &mut [u8])
     requires there { k < cells sheet.now.bytes.now }
     requires entered { cell_at sheet.now.bytes.now k < cell_at sheet.now.bytes.now 0 }
     requires room { length out.old ≡ 24 }
     ensures { out.new ≡ cell_bytes (var_cells f sheet.now.bytes.now k) }
 {
-    let (id, own) = out.split_at_mut(8);
-    copy_cells(sheet.bytes, k, 1, id);
-    put_own(f, sheet, cell_at(sheet.bytes, k), own);
+    let id = cell_at(sheet.bytes, k);
+    let (first, own) = out.split_at_mut(8);
+    put_cell(id, first);
+    put_own(f, sheet, id, own);
 }
 
 // A dest is a variable. Where an instruction has none, its three cells are copied.
+// It, an operand and a side are inlined, so that the lengths of their slices are constants.
+#[inline(always)]
 fn put_dest(f: Edition, sheet: &Sheet, has: bool, k: usize, out: &mut [u8])
     requires there { k + 3 ≤ cells sheet.now.bytes.now }
     requires entered { Entered sheet.now.bytes.now (id_if has k) }
@@ -61,20 +73,23 @@ fn put_dest(f: Edition, sheet: &Sheet, has: bool, k: usize, out: &mut [u8])
     }
 }
 
-// An operand is its kind and what stands in a dest's place, a variable or three cells.
-#[tactic(auto, using(crate::proofs::Written::behind_cell), unfolding(cells::specs::Cells::cells_from, crate::specs::Editions::operand_cells))]
+// An operand is its kind and then, as in a dest's place, a variable or three cells that are copied.
+#[inline(always)]
+#[tactic(auto, using(crate::proofs::Written::behind_cell), unfolding(crate::specs::Editions::operand_cells))]
 fn put_operand(f: Edition, sheet: &Sheet, k: usize, out: &mut [u8])
     requires there { k + 4 ≤ cells sheet.now.bytes.now }
     requires entered { Entered sheet.now.bytes.now (operand_id sheet.now.bytes.now k) }
     requires room { length out.old ≡ 32 }
     ensures { out.new ≡ cell_bytes (operand_cells f sheet.now.bytes.now k) }
 {
-    let (kind, fields) = out.split_at_mut(8);
-    copy_cells(sheet.bytes, k, 1, kind);
-    put_dest(f, sheet, holds_var(cell_at(sheet.bytes, k)), k + 1, fields);
+    let kind = cell_at(sheet.bytes, k);
+    let (first, fields) = out.split_at_mut(8);
+    put_cell(kind, first);
+    put_dest(f, sheet, holds_var(kind), k + 1, fields);
 }
 
 // Left or right is an operand. Where an instruction has none, its four cells are copied.
+#[inline(always)]
 fn put_side(f: Edition, sheet: &Sheet, has: bool, k: usize, out: &mut [u8])
     requires there { k + 4 ≤ cells sheet.now.bytes.now }
     requires entered { Entered sheet.now.bytes.now (side_id sheet.now.bytes.now has k) }
@@ -138,7 +153,7 @@ fn put_instrs(f: Edition, sheet: &Sheet, n: usize, k: usize, out: &mut [u8])
 }
 
 // A parameter is a variable. In edition 2 it is its id alone.
-#[tactic(auto, unfolding(cells::specs::Cells::cells_from, crate::specs::Editions::param_cells))]
+#[tactic(auto, unfolding(crate::specs::Editions::param_cells))]
 fn put_param(f: Edition, sheet: &Sheet, k: usize, out: &mut [u8])
     requires there { k < cells sheet.now.bytes.now }
     requires entered { cell_at sheet.now.bytes.now k < cell_at sheet.now.bytes.now 0 }
@@ -147,7 +162,7 @@ fn put_param(f: Edition, sheet: &Sheet, k: usize, out: &mut [u8])
 {
     match f {
         Edition::First => put_var(f, sheet, k, out),
-        Edition::Second => copy_cells(sheet.bytes, k, 1, out),
+        Edition::Second => put_cell(cell_at(sheet.bytes, k), out),
     }
 }
 
