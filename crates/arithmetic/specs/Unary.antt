@@ -1,4 +1,5 @@
--- Auxiliary: what the look-ups of `generate_unary` find, and its records, made of that. codegen's `generate_unary` is these two, by `sign_looked` and `unary_looked` (proofs/Looked).
+-- Auxiliary: what the look-ups of `generate_unary` find, and its records, made of that. codegen's `generate_unary` is these two, by `sign_looked` and
+-- `unary_looked` (proofs/Looked).
 use Rattle.std.specs.Prelude.{List, [], ◌∷◌, Bool, true, false, cond}
 use Rattle.ir.specs.declared.«Type».{«Type» as IrType}
 use Rattle.ir.specs.declared.VarId.{VarId}
@@ -26,16 +27,19 @@ look_unary ctx dest src = do
   var ← convert_var ctx dest
   ok (record { src = x; dest = record { var = var; size = size } })
 
--- ---- which records: -x of a float flips its sign bit, and else there is one record between the load and the store
+-- ---- which records
 
+-- of the three operations it is the minus
 abbrev pub is_negation : IrUnary → Bool
 is_negation IrUnary.Neg = true
 is_negation IrUnary.BitNot = false
 is_negation IrUnary.Not = false
 
+-- -x of a float flips its sign bit; else there is one record between the load and the store
 abbrev pub flips_sign : IrUnary → IrType → Bool
 flips_sign op ty = cond (is_negation op) (is_float ty) false
 
+-- that record, on RAX
 abbrev pub unary_record : IrUnary → Size → Instruction
 unary_record IrUnary.Neg size = Instruction.Unary UnaryOp.Neg (Operand.Reg RAX) size
 unary_record IrUnary.BitNot size = Instruction.Unary UnaryOp.Not (Operand.Reg RAX) size
@@ -43,9 +47,11 @@ unary_record IrUnary.Not size = Instruction.Binary BinOp.Xor (Operand.Reg RAX) (
 
 -- ---- the records
 
+-- a load, one record, and the store
 abbrev pub changed_of : Instruction → Changed → List Instruction
 changed_of i t = load_of RAX t.src t.dest.size ∷ i ∷ move t.dest.var (Operand.Reg RAX) t.dest.size ∷ []
 
+-- a load, the sign bit in RCX, the record that flips it, and the store
 abbrev pub sign_of : Changed → List Instruction
 sign_of t =
     load_of RAX t.src t.dest.size ∷ move (Operand.Reg RCX) (Operand.Imm (sign_bit t.dest.size)) t.dest.size

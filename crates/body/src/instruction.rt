@@ -8,7 +8,8 @@ ghost use Rattle.utils.specs.Makes.{Makes, Ready};
 ghost use Rattle.body.specs.Body.{line_made};
 
 use arithmetic::{generate_binary, generate_unary};
-use calls::{Arguments, generate_call};
+use calls::arguments::Arguments;
+use calls::generate_call;
 use casts::generate_cast;
 use cells::cell_at;
 use cells::refusals::Refusal;

@@ -142,6 +142,7 @@ pub fn write_body(context: &Context, sheet: &[u8], first: u64, out: &mut [u8]) -
     };
     match walk_body(context, sheet, from, first, out, true) {
         Ok(Survey { body: Ok(made), .. }) => made.records,
-        Ok(Survey { body: Err(_), .. }) | Err(_) => 0,
+        Ok(Survey { body: Err(_), .. }) => 0,
+        Err(_) => 0,
     }
 }

@@ -1,94 +1,120 @@
--- Auxiliary: a cast's parts as the code holds them. A source is codegen's `castOperand` and `widened` by `source-found`; a conversion's and an extension's look-ups and records are codegen's `converted` and `extended` by `converted-looked` and `extended-looked`; those of an unsigned short, moved by instructions' `movedOf`, are `zeroExtended` by `zero-extended-looked` (proofs/Casts).
-use Rattle.std.specs.Prelude.{ℕ, Bool, true, false, cond, not, ◌&&◌, List, [], ◌∷◌, ◌++◌, eqb}
+-- Auxiliary: a cast's parts as the code holds them. Codegen's `cast_operand`, `widened` and `cast_between` are these, by `cast_looked`, and its `zero_extended` by `zero_extended_looked` (proofs/Casts).
+use Rattle.std.specs.Prelude.{ℕ, Bool, cond, not, ◌&&◌, List, [], ◌∷◌, ◌++◌, eqb, Option, Some, None}
+use Rattle.ir.specs.declared.VarId.{VarId}
 use Rattle.ir.specs.declared.Operand.{Operand as IrOp}
-use Rattle.ir.specs.Types.{Result, ok, refused, ◌>>=◌}
-use Rattle.x86.specs.declared.register.Register.{Register}
+use Rattle.ir.specs.Types.{Result, ok, ◌>>=◌, operand_size}
 use Rattle.x86.specs.declared.enums.Size.{Size}
 use Rattle.x86.specs.declared.enums.Operand.{Operand}
-use Rattle.x86.specs.declared.enums.BinOp.{BinOp}
 use Rattle.x86.specs.declared.enums.ConvOp.{ConvOp}
 use Rattle.x86.specs.declared.enums.ExtendOp.{ExtendOp}
 use Rattle.x86.specs.declared.enums.Instruction.{Instruction}
-use Rattle.x86.specs.Registers.{RAX}
+use Rattle.x86.specs.Registers.{xmm, RAX}
 use Rattle.codegen.specs.Context.{Context}
+use Rattle.codegen.specs.Utils.{size_from, var_size, convert_operand}
+use Rattle.codegen.specs.Frame.{store_of}
 use Rattle.codegen.specs.Instructions as spec
-use Rattle.codegen.specs.Instructions.{source, move, cast_operand, widened}
+use Rattle.codegen.specs.Instructions.{source, is_copy}
+use Rattle.utils.specs.declared.kinds.Kind.{Kind}
 use Rattle.utils.specs.declared.slots.Slot.{Slot}
+use Rattle.utils.specs.Kinds.{kind_says}
 use Rattle.utils.specs.Sources.{load_of}
+use Rattle.utils.specs.Slots.{look_slot}
 use Rattle.casts.specs.declared.Source.{Source}
-use Rattle.casts.specs.declared.SourceResult.{SourceResult}
 
 -- ---- the source
 
--- the constants that go through RAX
-abbrev pub is_constant : IrOp → Bool
-is_constant (IrOp.Var v) = false
-is_constant (IrOp.Int n short unsigned) = true
-is_constant (IrOp.Float k) = false
-is_constant (IrOp.Bool b) = true
-is_constant (IrOp.Address v) = false
-is_constant (IrOp.DataAddress k) = false
-is_constant IrOp.Null = false
+-- the size by which a constant is loaded into RAX
+abbrev pub constant_size : IrOp → Option Size
+constant_size (IrOp.Var v) = None
+constant_size (IrOp.Int n short unsigned) = Some (operand_size (IrOp.Int n short unsigned))
+constant_size (IrOp.Float k) = None
+constant_size (IrOp.Bool b) = Some (operand_size (IrOp.Bool b))
+constant_size (IrOp.Address v) = None
+constant_size (IrOp.DataAddress k) = None
+constant_size IrOp.Null = None
+
+-- an operand of a kind, by what it is converted to
+abbrev pub source_from : IrOp → Kind → Operand → Source
+source_from op k x = record { operand = x; constant = constant_size op; kind = k }
 
 -- one byte that is no float
-abbrev pub is_byte : spec.Kind → Bool
+abbrev pub is_byte : Kind → Bool
 is_byte k = not k.float && eqb k.size 1
 
-abbrev pub source_from : IrOp → spec.Kind → Operand → Source
-source_from op k x = record { operand = x; constant = is_constant op; byte = is_byte k; size = k.size }
-
--- a constant's load is of its own size
-abbrev pub constant_size : ℕ → Size
-constant_size n = cond (eqb n 1) Size.U8 (cond (eqb n 4) Size.U32 Size.U64)
-
+-- it is widened with zeros
 abbrev pub movzx : Operand → Instruction
 movzx x = Instruction.Extend ExtendOp.Movzx RAX x Size.U8 Size.U64
 
+-- a constant's load
+abbrev pub load_records : Option Size → Operand → List Instruction
+load_records None x = []
+load_records (Some z) x = load_of RAX x z ∷ []
+
+-- where a constant is then, and any other operand
+abbrev pub loaded : Option Size → Operand → Operand
+loaded None x = x
+loaded (Some z) x = Operand.Reg RAX
+
 -- a constant's load, then Movzx of one byte
 unfoldable pub source_records : Source → List Instruction
-source_records s =
-    cond s.constant (load_of RAX s.operand (constant_size s.size) ∷ []) [] ++ cond s.byte (movzx (cond s.constant (Operand.Reg RAX) s.operand) ∷ []) []
+source_records s = load_records s.constant s.operand ++ cond (is_byte s.kind) (movzx (loaded s.constant s.operand) ∷ []) []
 
--- the operand that is converted once these have run, and its size in bytes
+-- the operand that is converted once these have run
 abbrev pub source_operand : Source → Operand
-source_operand s = cond s.constant (Operand.Reg RAX) (cond s.byte (Operand.Reg RAX) s.operand)
+source_operand s = cond (is_byte s.kind) (Operand.Reg RAX) (loaded s.constant s.operand)
 
+-- its size in bytes
 abbrev pub source_size : Source → ℕ
-source_size s = cond s.byte 8 s.size
+source_size s = cond (is_byte s.kind) 8 s.kind.size
 
+-- the source in codegen's words
 abbrev pub source_says : Source → spec.Source
 source_says s = source (source_records s) (source_operand s) (source_size s)
 
-abbrev pub source_result_says : SourceResult → Result spec.Source
-source_result_says (SourceResult.Is s) = ok (source_says s)
-source_result_says (SourceResult.Refused n) = refused n
+-- ---- the conversion
 
--- the same in codegen's words
-abbrev pub cast_source : Context → IrOp → spec.Kind → Result spec.Source
-cast_source ctx op k = cast_operand ctx op k.size >>= λ s. ok (widened k.float s)
+-- one of two, by a float's size in bytes
+abbrev pub by_width : ℕ → ConvOp → ConvOp → ConvOp
+by_width n eight four = cond (eqb n 8) eight four
 
--- ---- records
-
-abbrev pub converted_of : spec.Source → ConvOp → Register → Size → BinOp → Slot → List Instruction
-converted_of s op reg by store t = s.records ++ Instruction.Convert op reg s.operand by ∷ Instruction.Binary store t.var (Operand.Reg reg) t.size ∷ []
-
+-- four bytes are widened with their sign
 abbrev pub movsxd : Operand → Instruction
 movsxd x = Instruction.Extend ExtendOp.Movsxd RAX x Size.U32 Size.U64
 
--- between integers, what widens a source behind its records: nothing where RAX has eight bytes already, else Movsxd of four
-abbrev pub is_extended : spec.Source → Bool
-is_extended s = not (eqb s.size 8)
+-- the record that converts the source, if there is one
+abbrev pub conversion_of : Source → Kind → VarId → Result (Option Instruction)
+conversion_of s to dest =
+    cond to.float
+    (cond s.kind.float
+    (ok (Some (Instruction.Convert (by_width to.size ConvOp.Cvtss2sd ConvOp.Cvtsd2ss) (xmm 0) (source_operand s) Size.NoSize)))
+    (size_from (source_size s) >>= λ z. ok (Some (Instruction.Convert (by_width to.size ConvOp.Cvtsi2sd ConvOp.Cvtsi2ss) (xmm 0) (source_operand s) z))))
+    (cond s.kind.float
+    (var_size dest >>= λ z. ok (Some (Instruction.Convert (by_width (source_size s) ConvOp.Cvttsd2si ConvOp.Cvttss2si) RAX (source_operand s) z)))
+    (ok (cond (eqb (source_size s) 8) None (Some (movsxd (source_operand s))))))
 
-abbrev pub extended_of : spec.Source → Slot → List Instruction
-extended_of s t = s.records ++ cond (is_extended s) (movsxd s.operand ∷ []) [] ++ move t.var (Operand.Reg RAX) t.size ∷ []
+-- ---- the cast
 
--- ---- conversions, by a float's size in bytes
+-- the low bytes are enough
+unfoldable pub is_copied : Kind → Kind → Bool
+is_copied from to = is_copy (kind_says from) to.float to.size
 
-abbrev pub float_to_float : ℕ → ConvOp
-float_to_float n = cond (eqb n 8) ConvOp.Cvtss2sd ConvOp.Cvtsd2ss
+-- a record that there may be
+abbrev pub perhaps : Option Instruction → List Instruction
+perhaps None = []
+perhaps (Some i) = i ∷ []
 
-abbrev pub integer_to_float : ℕ → ConvOp
-integer_to_float n = cond (eqb n 8) ConvOp.Cvtsi2sd ConvOp.Cvtsi2ss
+-- a float is stored from XMM0, all else from RAX
+abbrev pub store : Bool → Slot → Instruction
+store float t = Instruction.Binary (store_of float) t.var (Operand.Reg (cond float (xmm 0) RAX)) t.size
 
-abbrev pub float_to_integer : ℕ → ConvOp
-float_to_integer n = cond (eqb n 8) ConvOp.Cvttsd2si ConvOp.Cvttss2si
+-- the source's records, the conversion, and the store of its result
+unfoldable pub cast_of : Source → Option Instruction → Instruction → List Instruction
+cast_of s conversion last = source_records s ++ (perhaps conversion ++ last ∷ [])
+
+-- .. behind their look-ups
+unfoldable pub cast_made : Context → VarId → IrOp → Kind → Kind → Result (List Instruction)
+cast_made ctx dest src k to = do
+  x ← convert_operand ctx src
+  conversion ← conversion_of (source_from src k x) to dest
+  slot ← look_slot ctx dest
+  ok (cast_of (source_from src k x) conversion (store to.float slot))

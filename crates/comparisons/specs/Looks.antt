@@ -34,6 +34,7 @@ parity_for cc =
 
 -- ---- how two operands are compared
 
+-- a choice by its parts
 abbrev pub choice : Register → IrOp → Register → IrOp → BinOp → ConditionCode → Option Parity → Choice
 choice a left b right op cc more =
     record { left = left; left_register = a; right = right; right_register = b; op = op; cc = cc; parity = more }
@@ -47,8 +48,9 @@ unfoldable pub chosen : IrOp → IrOp → Bool → Bool → ConditionCode → Ch
 chosen left right true unsigned cc = cond (is_swapped cc) (float_choice right left (float_code cc) None) (float_choice left right (float_code cc) (parity_for cc))
 chosen left right false unsigned cc = choice RAX left RCX right BinOp.Cmp (cond unsigned (unsigned_code cc) cc) None
 
--- ---- look-ups, in the Rust's order, and records
+-- ---- look-ups and records
 
+-- the look-ups, in the Rust's order: both sides as they were chosen, and dest last
 abbrev pub look_compared : Context → VarId → IrOp → IrOp → ConditionCode → Result Compared
 look_compared ctx dest left right cc = do
   k ← operand_kind ctx left
@@ -58,6 +60,7 @@ look_compared ctx dest left right cc = do
   slot ← look_slot ctx dest
   ok (record { choice = chosen left right k.float k.unsigned cc; size = size; sides = record { left = x; right = y; dest = slot } })
 
+-- both sides, the comparison, the flag, what the parity flag asks, and the store to dest
 abbrev pub compared_of : Compared → List Instruction
 compared_of t =
     load_of t.choice.left_register t.sides.left t.size ∷ load_of t.choice.right_register t.sides.right t.size

@@ -19,9 +19,10 @@ use Rattle.utils.proofs.Sources.{own_found, sourced, sized, var_given, Given}
 use Rattle.instructions.specs.Looks.{return_register, return_of, branch_of}
 
 -- what follows a value that is made of another follows that other
-made_of : {A B C : Type 0} (r : Result A) (g : A → B) (f : B → Result C) → ((r >>= λ a. ok (g a)) >>= f) ≡ (r >>= λ a. f (g a))
-made_of (ok a) g f = refl
-made_of (refused n) g f = refl
+pub made_of : {A B C : Type 0} (r : Result A) (g : A → B) (f : B → Result C) (h : A → Result C) → ((a : A) → f (g a) ≡ h a)
+    → ((r >>= λ a. ok (g a)) >>= f) ≡ (r >>= h)
+made_of (ok a) g f h e = e a
+made_of (refused n) g f h e = refl
 
 pub return_looked : (ctx : Context) (ret : IrType) (op : IrOp)
     → generate_return ctx ret op ≡ (source_of ctx op >>= λ src. ok (return_of (return_register ret) src (own_size_of ctx op)))
@@ -42,11 +43,11 @@ copy_looked ctx dest src = go (convert_var ctx dest) (var_size dest) (var_given 
     go : (v : Result Operand) (z : Result Size) → Yields z Given
         → (v >>= λ var. z >>= λ size. load_operand ctx RAX src size >>= λ load. ok (load ∷ move var (Operand.Reg RAX) size ∷ []))
         ≡ ((v >>= λ var. z >>= λ size. ok (record { var = var; size = size })) >>= λ t. source_of ctx src >>= λ x. ok (moved_of x t.size t))
-    go (ok var) (ok size) y = rw (sized ctx RAX src size (y.of size refl)) (made_of (source_of ctx src) _ _)
+    go (ok var) (ok size) y = rw (sized ctx RAX src size (y.of size refl)) (made_of (source_of ctx src) _ _ _ (λ x. refl))
     go (ok var) (refused n) y = refl
     go (refused n) z y = refl
 
 pub branch_looked : (ctx : Context) (labels : ℕ) (condition : IrOp) (target : ℕ)
     → generate_jmp_if_not ctx labels condition target ≡ (source_of ctx condition >>= λ src. label_at labels target >>= λ label. ok (branch_of src label))
 unfolding generate_jmp_if_not
-branch_looked ctx labels condition target = rw (sized ctx RAX condition Size.U8 (λ z. refl)) (made_of (source_of ctx condition) _ _)
+branch_looked ctx labels condition target = rw (sized ctx RAX condition Size.U8 (λ z. refl)) (made_of (source_of ctx condition) _ _ _ (λ x. refl))

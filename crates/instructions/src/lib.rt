@@ -82,15 +82,11 @@ pub fn generate_return(
     requires { Ready write (generate_return (held context.now) ret (left_of line.now)) at (length out.old) }
     ensures { Makes write (generate_return (held context.now) ret (left_of line.now)) at out.old out.new result }
 {
-    let src = source(context, line.left())?;
+    let value = line.left();
+    let src = source(context, value)?;
     if write {
-        put_return(
-            out,
-            at,
-            return_register(ret),
-            src,
-            own_size(context, line.left()),
-        );
+        let size = own_size(context, value);
+        put_return(out, at, return_register(ret), src, size);
     }
     Ok(4)
 }
@@ -163,8 +159,9 @@ pub fn generate_zero(
     requires { Ready write (generate_zero (held context.now) (dest_of line.now)) at (length out.old) }
     ensures { Makes write (generate_zero (held context.now) (dest_of line.now)) at out.old out.new result }
 {
-    let bytes = line.dest().ty.size()?;
-    let var = convert_var(context, line.dest())?;
+    let dest = line.dest();
+    let bytes = dest.ty.size()?;
+    let var = convert_var(context, dest)?;
     if write {
         put_zero(out, at, bytes, var);
     }

@@ -1,5 +1,5 @@
--- Auxiliary: what an operation's look-ups find, and its records, made of that. codegen's `simple_operation` and `float_operation` are `one_load`, and that and codegen's `two_loads`
--- are these two, by `one_looked` and `two_looked` (proofs/Looked).
+-- Auxiliary: what an operation's look-ups find, and its records, made of that. codegen's `simple_operation` and `float_operation`
+-- are `one_load`; that and codegen's `two_loads` are these two, by `one_looked` and `two_looked` (proofs/Looked).
 use Rattle.std.specs.Prelude.{ℕ, List, [], ◌∷◌, ◌++◌}
 use Rattle.ir.specs.declared.VarId.{VarId}
 use Rattle.ir.specs.declared.Operand.{Operand as IrOp}
@@ -39,21 +39,24 @@ look_sides ctx dest left right = do
 
 -- ---- records
 
+-- a load, the operation with right, and the store
 abbrev pub one_load_of : Register → BinOp → BinOp → Sides → List Instruction
 one_load_of reg op store t =
     load_of reg t.left t.dest.size ∷ Instruction.Binary op (Operand.Reg reg) t.right t.dest.size ∷ Instruction.Binary store t.dest.var (Operand.Reg reg) t.dest.size ∷ []
 
--- what stands between two loads and the store, and how many records that is
+-- what stands between two loads and the store
 abbrev pub middle_of : Middle → Size → List Instruction
 middle_of Middle.Multiply size = Instruction.ComplexBinary ComplexBinOp.Imul (Operand.Reg RAX) (Operand.Reg RCX) size ∷ []
 middle_of (Middle.Shift op) size = Instruction.Shift op (Operand.Reg RAX) (Operand.Reg RCX) size ∷ []
 middle_of (Middle.Divide unsigned) size = dividing unsigned size
 
+-- how many records that is
 abbrev pub middle_count : Middle → ℕ
 middle_count Middle.Multiply = 1
 middle_count (Middle.Shift op) = 1
 middle_count (Middle.Divide unsigned) = 2
 
+-- two loads, the records of the operation, and the store of a register
 abbrev pub two_loads_of : (Size → List Instruction) → Register → Sides → List Instruction
 two_loads_of operation result t =
     load_of RAX t.left t.dest.size ∷ load_of RCX t.right t.dest.size ∷ operation t.dest.size ++ move t.dest.var (Operand.Reg result) t.dest.size ∷ []

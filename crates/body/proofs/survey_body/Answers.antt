@@ -5,4 +5,4 @@ use Rattle.utils.proofs.Made.{counting}
 use Rattle.body.proofs.survey_body.Goals as goal
 
 pub walk_body-requires : goal.walk_body-requires
-walk_body-requires c = record { sheet_value = c.requires; laid = λ w. apart (sym w); first_bound = omega arith; ready = counting }
+walk_body-requires c = record { head = c.requires; laid = λ w. apart (sym w); first_bound = omega arith; ready = counting }

@@ -1,25 +1,30 @@
+use mathlib.Core.Path.{sym, ◌∙◌}
 use native.Mathlib.Omega.{arith}
 use Rattle.x86.proofs.Lists.{puts, first, put, done, none}
-use Rattle.casts.proofs.Casts.{source_count, both_records, load_record, byte_record, no_record_lem}
+use Rattle.casts.specs.Casts.{source_records}
 use Rattle.casts.proofs.put_source.Goals as goal
 
-pub put_load-requires : goal.put_load-requires
-put_load-requires c = let h = rw (← source_count c.args.s, c.if-s.true) at c.requires in omega arith
+pub returns-then-is_byte : goal.returns-then-is_byte
+unfolding source_records
+returns-then-is_byte c =
+    let byte = sym c.is_byte.ensures ∙ c.if-is_byte.true in
+    let h = rw (c.in-Some.is, byte) at c.requires in
+    rw (c.in-Some.is, byte) (puts (first c.put_load.ensures (put (rw c.movzx.ensures at c.put_instruction.ensures) done)) (omega arith))
 
-pub put_extend-requires : goal.put_extend-requires
-put_extend-requires c = let h = rw (both_records c.args.s c.if-s.true c.if-s-2.true) at c.requires in omega arith
+pub returns-else-is_byte : goal.returns-else-is_byte
+unfolding source_records
+returns-else-is_byte c =
+    let byte = sym c.is_byte.ensures ∙ c.if-is_byte.false in
+    let h = rw (c.in-Some.is, byte) at c.requires in
+    rw (c.in-Some.is, byte) (puts (first c.put_load.ensures done) (omega arith))
 
-pub returns-then-s-2 : goal.returns-then-s-2
-returns-then-s-2 c = let e = both_records c.args.s c.if-s.true c.if-s-2.true in let h = rw e at c.requires in rw e (puts (first (rw c.constant_size.ensures at c.put_load.ensures) (put (rw c.movzx.ensures at c.put_extend.ensures) done)) (omega arith))
+pub returns-then-is_byte-2 : goal.returns-then-is_byte-2
+unfolding source_records
+returns-then-is_byte-2 c =
+    let byte = sym c.is_byte-2.ensures ∙ c.if-is_byte-2.true in
+    let h = rw (c.in_default.is, byte) at c.requires in
+    rw (c.in_default.is, byte) (puts (first (rw c.movzx-then-is_byte-2.ensures at c.put_instruction-then-is_byte-2.ensures) done) (omega arith))
 
-pub returns-else-s-2 : goal.returns-else-s-2
-returns-else-s-2 c = let e = load_record c.args.s c.if-s.true c.if-s-2.false in let h = rw e at c.requires in rw e (puts (first (rw c.constant_size.ensures at c.put_load.ensures) done) (omega arith))
-
-pub put_extend-requires-then-s-3 : goal.put_extend-requires-then-s-3
-put_extend-requires-then-s-3 c = let h = rw (byte_record c.args.s c.if-s.false c.if-s-3.true) at c.requires in omega arith
-
-pub returns-then-s-3 : goal.returns-then-s-3
-returns-then-s-3 c = let e = byte_record c.args.s c.if-s.false c.if-s-3.true in let h = rw e at c.requires in rw e (puts (first (rw c.movzx-then-s-3.ensures at c.put_extend-then-s-3.ensures) done) (omega arith))
-
-pub returns-else-s-3 : goal.returns-else-s-3
-returns-else-s-3 c = rw (no_record_lem c.args.s c.if-s.false c.if-s-3.false) (none _ _)
+pub returns-else-is_byte-2 : goal.returns-else-is_byte-2
+unfolding source_records
+returns-else-is_byte-2 c = rw (c.in_default.is, sym c.is_byte-2.ensures ∙ c.if-is_byte-2.false) (none _ _)
