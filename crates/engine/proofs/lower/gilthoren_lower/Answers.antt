@@ -24,4 +24,4 @@ returns-in-Err c =
     let e = sym (ap outcome g) ∙ c.generate.ensures.answer in
     let v = refused_numbers length o e in
     let k = (lowered_answers a.tables.now a.sheet.now (length a.records.now)).of _ _ (refused_is length o e) in
-    record { number = c.from.ensures ∙ v.0; known = (k.1, k.2); place = v.1; bytes = c.generate.ensures.bytes; lent = (refl, refl); demand2 = λ z. absurd (omega (arith, k.0)); demand3 = λ z p. absurd (omega (arith, k.0)) }
+    record { number = c.from.ensures ∙ v.0; known = rw c.from.ensures (k.1, k.2); place = v.1; bytes = c.generate.ensures.bytes; lent = (refl, refl); demand2 = λ z. absurd (omega (arith, k.0, c.from.ensures, z)); demand3 = λ z p. absurd (omega (arith, k.0, c.from.ensures, z)) }

@@ -20,4 +20,4 @@ returns-in-Ok c =
 
 pub returns-in-Err : goal.returns-in-Err
 returns-in-Err c = let h' = sheet_refused _ _ (sym (ap outcome c.in-Err.is) ∙ c.find.ensures) in
-    record { number = c.from.ensures ∙ h'.0; known = h'.1.0; place = h'.1.1.0; from = h'.1.1.1.0; length = h'.1.1.1.1.0; part = h'.1.1.1.1.1.0; lent = h'.1.1.1.1.1.1 }
+    record { number = c.from.ensures ∙ h'.0; known = rw c.from.ensures h'.1.0; place = h'.1.1.0; from = h'.1.1.1.0; length = h'.1.1.1.1.0; part = λ z. h'.1.1.1.1.1.0 (sym c.from.ensures ∙ z); lent = h'.1.1.1.1.1.1 }

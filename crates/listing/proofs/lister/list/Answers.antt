@@ -1,4 +1,4 @@
-use Rattle.std.proofs.Common.{sym, ◌∙◌, rules, arith}
+use Rattle.std.proofs.Common.{sym, ap, Err, ◌∙◌, rules, arith}
 use Rattle.text.proofs.Parts.{parts_fit}
 use Rattle.text.proofs.Pieces.{refused_length, whole}
 use Rattle.listing.specs.Listing.{listing_records}
@@ -25,14 +25,14 @@ slice_bounds-list_parts-start-in-Ok c = omega (arith, parts_fit _ _ (sym c.split
 pub returns-in-Err-TooLong : goal.returns-in-Err-TooLong
 unfolding listing_records
 returns-in-Err-TooLong c =
-    let e = sym c.split.ensures ∙ c.in-Err-TooLong.is in
+    let e = sym c.split.ensures ∙ c.in-Err-TooLong.is ∙ ap Err c.in-Err-TooLong.field-0-is in
     let text = whole _ c.too_long_text.ensures (too_long c.args.input.now e) (omega (arith, c.well_formed)) in
     record { records_after = rw e; put = text.0; counts = text.1 }
 
 pub returns-in-Err-NoTables : goal.returns-in-Err-NoTables
 unfolding listing_records
 returns-in-Err-NoTables c =
-    let e = sym c.split.ensures ∙ c.in-Err-NoTables.is in
+    let e = sym c.split.ensures ∙ c.in-Err-NoTables.is ∙ ap Err c.in-Err-NoTables.field-0-is in
     let text = whole _ c.refused_text.ensures (no_tables c.args.input.now e) (omega (arith, refused_length 1 0, c.well_formed)) in
     record { records_after = rw e; put = text.0; counts = text.1 }
 

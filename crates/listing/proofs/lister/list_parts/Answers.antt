@@ -1,5 +1,6 @@
 use Rattle.std.proofs.Common.{sym, ap, ◌∙◌, rules, arith, length-append}
 use Rattle.cells.specs.Outcomes.{outcome}
+use Rattle.cells.specs.Refusals.{number_of_refusal}
 use Rattle.text.proofs.Pieces.{ok_length, refused_length, whole}
 use Rattle.listing.proofs.Listing.{accepted_lists, refused_lists, left}
 use Rattle.listing.proofs.lister.list_parts.Goals as goal
@@ -26,7 +27,7 @@ pub returns-in-Err : goal.returns-in-Err
 returns-in-Err c =
     let line = refused_lists c.args.tables.now c.args.sheet.now c.args.records.now (omega (arith, c.well_formed))
     (ap outcome (sym c.in-Err.is) ∙ c.generate.ensures.answer) in
-    let text = whole _ c.refused_text.ensures line (omega (arith, refused_length c.in-Err.n c.in-Err.place, c.well_formed)) in
+    let text = whole _ (rw c.from.ensures at c.refused_text.ensures) line (omega (arith, refused_length (number_of_refusal c.in-Err.refused.refusal) c.in-Err.refused.place, c.well_formed)) in
     record {
       records_after = left c.args.tables.now c.args.sheet.now c.args.records.now (omega (arith, c.well_formed)) c.generate.ensures.bytes;
       put = text.0;
