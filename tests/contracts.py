@@ -17,7 +17,7 @@ def operations(crate):
     for file in sorted((crate / "src").rglob("*.rt")):
         owner = ""
         for line in file.read_text(encoding="utf-8").splitlines():
-            if block := re.match(r"impl (\w+) \{", line):
+            if block := re.match(r"impl(?:<'a>)? (\w+)(?:<'a>)? \{", line):
                 owner = block[1] + "::"
             elif line == "}":
                 owner = ""

@@ -127,7 +127,12 @@ def same_order(enum, order, ending, longer):
 
 
 def binary_operations():
-    return positions(block(text("crates/ir/specs/Function.antt"), r"^pub data BinaryOp : Type 0 where\n  ([\w ]+) : BinaryOp", "BinaryOp").split())
+    """The definition's look-up has them in the same order, the last too."""
+    order = block(text("crates/ir/specs/Function.antt"), r"^binary_op k =\s+get_or \(([\w.∷\s]+?) ∷ \[\]\) k BinaryOp\.Rem", "binary_op")
+    found = rust_enum("BinaryOp")
+    if [upper(name.strip().removeprefix("BinaryOp.")) for name in order.split("∷")] != list(found):
+        fail("enum BinaryOp of crates/ir/src is not in the definition's order")
+    return found
 
 
 def type_codes():
@@ -151,7 +156,7 @@ def cells():
 def refusals():
     """The definitions' names, and the code's, which has none for what is never answered."""
     found = constants("crates/cells/specs/Refusals.antt")
-    coded = numbered(re.findall(r"^pub const (\w+): u(?:8|64) = (\d+);$", text("crates/cells/src/refusals.rt"), re.M))
+    coded = numbered(re.findall(r"^    (\w+) = (\d+),$", text("crates/cells/src/refusals.rt"), re.M))
     if coded != {name: n for name, n in found.items() if name != "REGISTERS_SPENT"}:
         fail("refusals of crates/cells/src are not those of its definitions")
     return {"ACCEPTED": 0} | found

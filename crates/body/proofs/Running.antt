@@ -22,7 +22,7 @@ use Rattle.cells.specs.declared.refusals.Refused.{Refused}
 use Rattle.cells.specs.Refusals.{number_of_refusal}
 use Rattle.layout.specs.declared.Edition.{Edition}
 use Rattle.layout.specs.Limits.{most_arguments}
-use Rattle.layout.specs.Layout.{Checked, Limited, Laid, cursor, instrs_in, instr_check, instrs_check, head_check}
+use Rattle.layout.specs.Layout.{Checked, Laid, cursor, instrs_in, instr_check, instrs_check, head_check}
 use Rattle.layout.proofs.Passed as passed
 use Rattle.layout.proofs.Laws.{instr_right, instrs_more, head_few, head_starts}
 use Rattle.layout.proofs.Walk.{walk_from}

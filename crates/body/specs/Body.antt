@@ -1,5 +1,5 @@
--- Auxiliary: the records of an instruction and of a body, codegen's `generateInstruction` and `generateBody` on the sheet's cells, by `by_kind` (proofs/Lines)
--- and `in-turn` (proofs/Running); and what a survey of a body says.
+-- Auxiliary: the records of an instruction and of a body, codegen's `generate_instr` and `generate_body` on the sheet's cells, by `by_kind` (proofs/Lines)
+-- and `in_turn` (proofs/Running); and what a survey of a body says.
 use Rattle.std.specs.Prelude.{ℕ, List, length}
 use Rattle.cells.specs.Cells.{cell_at}
 use Rattle.ir.specs.declared.«Type».{«Type» as IrType}

@@ -13,7 +13,6 @@ use Rattle.ir.specs.declared.UnaryOp.{UnaryOp as IrUnary}
 use Rattle.std.specs.Prelude.{Option, Some, None}
 use Rattle.ir.specs.declared.Instr.{Instr}
 use Rattle.ir.specs.Types.{Result, ok, refused, ◌>>=◌, type_size, is_float, is_unsigned, element_width}
-use Rattle.ir.specs.Function.{binary_op}
 use Rattle.x86.specs.declared.register.Register.{Register}
 use Rattle.x86.specs.declared.enums.Size.{Size}
 use Rattle.x86.specs.declared.enums.Operand.{Operand}

@@ -6,7 +6,7 @@ use mathlib.Core.Bool.{false}
 use mathlib.Core.List.{[], ◌∷◌}
 use Rattle.ir.specs.declared.VarId.{VarId}
 use Rattle.ir.specs.declared.Operand.{Operand as IrOp}
-use Rattle.std.specs.Prelude.{Option, Some, None}
+use Rattle.std.specs.Prelude.{Some}
 use Rattle.ir.specs.Types.{ok, refused, no_array, type_size, is_float, element_width, bytes, operand_size, elf_size}
 use Rattle.ir.specs.Function.{Tables}
 use Rattle.x86.specs.declared.enums.Size.{Size}

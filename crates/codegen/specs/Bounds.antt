@@ -1,4 +1,4 @@
--- Auxiliary: how many records there can be; that there are no more is `instr-part` and `prologue-few` (proofs/Shapes).
+-- Auxiliary: how many records there can be; that there are no more is `instr_part` and `prologue_few` (proofs/Shapes).
 use Rattle.std.specs.Prelude.{ℕ, ◌+◌, ◌*◌}
 use Rattle.layout.specs.Limits.{most_instructions, most_arguments}
 

@@ -1,4 +1,4 @@
--- Auxiliary: arguments or parameters in order, and what they take. `beyond` is codegen's `excess` by its definition; that `behindOne` is its step is `count_turn`
+-- Auxiliary: arguments or parameters in order, and what they take. `beyond` is codegen's `excess` by its definition; that `behind_one` is its step is `count_turn`
 -- (proofs/Taken).
 use Rattle.std.specs.Prelude.{ℕ, suc, ◌≤◌, Bool, cond, List, []}
 use Rattle.ir.specs.Types.{Result, ok}

@@ -1,4 +1,4 @@
--- Auxiliary: codegen's `var_offsets` and `total` on the types of a sheet, by `generated` and `not-generated` (generation/proofs/Lowering.antt), and the numbers
+-- Auxiliary: codegen's `var_offsets` and `total` on the types of a sheet, by `generated` and `not_generated` (generation/proofs/Lowering.antt), and the numbers
 -- that hold the offsets.
 use Rattle.std.specs.Prelude.{ℕ, List, ◌++◌, Bool, true, false, drop}
 use Rattle.cells.specs.Refusals.{no_width}

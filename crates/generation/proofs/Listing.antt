@@ -28,15 +28,11 @@ use Rattle.codegen.proofs.Results.{Yields, yields, any, bind, choose, never}
 use Rattle.codegen.proofs.Shapes.{ends_last, ends_same, prologue_few}
 use Rattle.utils.specs.Answers.{lent, counted}
 use Rattle.std.specs.Prelude.{Ok, Err}
-use Rattle.std.specs.Prelude as std
 use Rattle.cells.specs.declared.refusals.Refusal.{Refusal}
-use Rattle.cells.specs.declared.refusals.Refused.{Refused}
-use Rattle.cells.specs.Refusals.{number_of_refusal}
-use Rattle.cells.specs.Outcomes.{outcome}
 use Rattle.utils.specs.Makes.{Makes, Fits, Ready, then}
 use Rattle.utils.proofs.Made.{Going, begins, next_ready, next, finishes}
 use Rattle.generation.specs.Answers.{counted_outcome}
-use Rattle.body.specs.Body.{Passed, Surveyed, body_of, without_place, passed_of}
+use Rattle.body.specs.Body.{Passed, body_of, without_place, passed_of}
 use Rattle.generation.specs.Pass.{list_of, ending}
 use Rattle.generation.specs.Survey.{Counted, counted_list, framed}
 

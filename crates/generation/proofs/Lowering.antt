@@ -9,9 +9,9 @@ use lib.ListN.{length, take, drop}
 use lib.Seq.{length-take-le}
 use Rattle.cells.specs.Cells.{cell_at, write}
 use Rattle.cells.specs.declared.Cursor.{Cursor}
-use Rattle.cells.specs.Refusals.{torn_sheet, page_full}
+use Rattle.cells.specs.Refusals.{page_full}
 use Rattle.layout.specs.Limits.{most_variables, most_count}
-use Rattle.layout.specs.Layout.{Checked, Limited, bind_checked, tables_check, head_check, sheet_in, sheet_check, instrs_check, end_check}
+use Rattle.layout.specs.Layout.{Checked, bind_checked, tables_check, head_check, sheet_in, sheet_check, instrs_check, end_check}
 use Rattle.layout.proofs.Laws.{head_total}
 use Rattle.ir.specs.declared.«Type».{«Type» as IrType}
 use Rattle.ir.specs.Types as types

@@ -9,7 +9,6 @@ use Rattle.cells.specs.Cells.{cells, cell_at}
 use Rattle.cells.specs.declared.Cursor.{Cursor}
 use Rattle.std.specs.Prelude.{Ok, Err}
 use Rattle.cells.specs.declared.refusals.Refused.{Refused}
-use Rattle.cells.specs.Refusals.{number_of_refusal}
 use Rattle.ir.specs.Types.{Result}
 use Rattle.ir.specs.Function.{types_at, tables_of, function_of}
 use Rattle.ir.proofs.Sheet.{types_length}

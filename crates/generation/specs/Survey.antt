@@ -1,5 +1,5 @@
 -- Auxiliary: what a sheet comes to before a record of it is written: its layout, the bytes of its frame, and how many records it makes, as many as codegen's
--- `compiled` has by `survey-says` (proofs/Lowering).
+-- `compiled` has by `survey_says` (proofs/Lowering).
 use Rattle.std.specs.Prelude.{ℕ, ◌+◌, ◌*◌, ◌/◌, ◌≡◌, List, length}
 use Rattle.cells.specs.Cells.{cell_at}
 use Rattle.std.specs.Prelude.{Ok, Err}

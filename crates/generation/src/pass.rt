@@ -73,8 +73,9 @@ fn count_list(
     let mut none = [0u8; 1];
     let params = 6 + 2 * cell_at(sheet, 0) as usize;
     let count = cell_at(sheet, 1);
-    let first = func_prologue(context, sheet, count, params, bytes, &mut none, false)
-        .map_err(before_body)?;
+    let first = func_prologue(context, sheet, count, params, bytes, &mut none, false).map_err(
+        before_body,
+    )?;
     let made = body?;
     Ok(Frame {
         bytes,
@@ -84,11 +85,7 @@ fn count_list(
 
 // It checks the layout of the tables and of the sheet's head, and then has the offsets of the variables. Where the layout is refused these stay as they were.
 #[tactic(auto, unfolding(crate::specs::Survey::opening, crate::specs::Survey::offsets_opened))]
-pub fn open_sheet(
-    tables: &[u8],
-    sheet: &[u8],
-    offsets: &mut [u64; 256],
-) -> Result<Head, Refused>
+pub fn open_sheet(tables: &[u8], sheet: &[u8], offsets: &mut [u64; 256]) -> Result<Head, Refused>
     requires { length offsets.old ≡ 256 }
     ensures value { opened_says result ≡ opening tables.now sheet.now }
     ensures offsets_after { offsets.new ≡ offsets_opened tables.now sheet.now offsets.old }
@@ -106,7 +103,10 @@ pub fn survey(context: &Context, sheet: &[u8], head: Head) -> Result<Frame, Refu
     ensures lends { LendsIf (frame_says result) context.now.tables.now sheet.now context.now.offsets.now }
 {
     let found = survey_body(context, sheet, head.from)?;
-    end_check(Refusal::TornSheet, sheet, found.end)?;
+    end_check(sheet, found.end).map_err(|w| Refused {
+        refusal: Refusal::TornSheet,
+        place: w.cell as u64,
+    })?;
     count_list(context, sheet, head, found.body)
 }
 

@@ -1,5 +1,5 @@
 -- Believed: refusals 1 to 3 rest on it. The layout of tables and sheet: which cell is the first wrong one, in reading order
--- (docs/FORMAT.md, "Tables", "Sheet", "Edition 2", "Limits", "Refusals"). One check reads both editions of a sheet: they differ in `ownIn` and `paramIn` alone.
+-- (docs/FORMAT.md, "Tables", "Sheet", "Edition 2", "Limits", "Refusals"). One check reads both editions of a sheet: they differ in `own_in` and `param_in` alone.
 use Rattle.std.specs.Prelude.{ℕ, zero, suc, ◌+◌, ◌*◌, ◌-◌, ◌^◌, ◌≡◌, List, Bool, cond, ◌&&◌, ◌||◌, length, ltb, leb, eqb, Result, Ok, Err}
 use Rattle.cells.specs.Cells.{cell_at, largest, read_cell, read_within, bind_cell}
 use Rattle.cells.specs.declared.Cursor.{Cursor}
@@ -198,7 +198,7 @@ instrs_in e s (suc n) c = bind_checked Err (instr_in e s c) (λ next. instrs_in 
 
 -- ---- the sheet: variable count, parameter count, label count, return type, instruction count; then variable types, parameters, instructions
 
--- the cell of the first instruction, which of edition 1 is ir's `bodyFrom`
+-- the cell of the first instruction, which of edition 1 is ir's `body_from`
 abbrev pub body_start : Edition → List ℕ → ℕ
 body_start e s = params_from s + param_width e * cell_at s 1
 

@@ -554,7 +554,7 @@ module _ (tables : Tables) (vars : List IrType) (N : Naming) (Q : Type 0) where
   copying : {d : VarId} {x : IrOp} {b : List Instruction} → Copies ctx d x b → GivenVar d → GivenOperand (N false) (bytes d.ty) x → (Q → SmallOperand x) → All (Sound vars N Q) b
   copying {d} {x} (copies {z = z} p q r) g w h = (load_by RAX x ax ((var_size_is d).of z q) w h r, (stored BinOp.Mov d RAX p q g (lit< tt), tt))
 
-  -- a cast's source where it is converted: at most `castBytes` of a variable are touched there
+  -- a cast's source where it is converted: at most `cast_bytes` of a variable are touched there
   abbrev GivenCast : IrOp → Type 0
   GivenCast = OfVar (λ u. Given (N false) (cast_bytes u.ty) u)
 

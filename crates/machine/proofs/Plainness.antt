@@ -14,7 +14,7 @@ use Rattle.ir.specs.declared.Operand.{Operand as IrOp}
 use Rattle.ir.specs.declared.Instr.{Instr}
 use Rattle.ir.specs.Types as types
 use Rattle.ir.specs.Types.{ok, no_array, is_scalar, element_width, bytes, type_size, is_float, is_unsigned, element_size, elf_size}
-use Rattle.ir.specs.Function.{Function, Line, binary_op}
+use Rattle.ir.specs.Function.{Function, Line}
 use Rattle.machine.specs.Word.{W}
 use Rattle.machine.specs.Steps as steps
 use Rattle.machine.specs.Steps.{width, is_signed_type, is_label, is_logical}

@@ -17,7 +17,7 @@ use Rattle.x86.specs.Registers.{number}
 use Rattle.x86.specs.Records.{size_code}
 use Rattle.machine.specs.Word.{W, bound}
 
--- no size means eight bytes (docs/FORMAT.md, "Records"); for a form that has one width only see `isOwn`
+-- no size means eight bytes (docs/FORMAT.md, "Records"); for a form that has one width only see `is_own`
 abbrev pub bytes : Size → ℕ
 bytes Size.NoSize = 8
 bytes Size.U8 = 1

@@ -226,7 +226,11 @@ impl Middle {
                     size,
                 },
             ),
-            Middle::Shift(op) => put_instruction(out, at, Instruction::Shift { op, dst, src, size }),
+            Middle::Shift(op) => put_instruction(
+                out,
+                at,
+                Instruction::Shift { op, dst, src, size },
+            ),
             Middle::Divide(unsigned) => put_dividing(out, at, unsigned, size),
         }
     }

@@ -1,5 +1,5 @@
 -- Believed: what docs/FORMAT.md, "Packs", says of a pack's layout, of a pack in which a sheet is changed, and of tables that are exchanged, as claims. They are proved in
--- proofs/Tiles (`good-laid`, `laid-good`, `tiles`), proofs/Changes (`others-stay`) and proofs/Tables (`tables-exchanged`).
+-- proofs/Tiles (`good_laid`, `laid_good`, `tiles`), proofs/Changes (`others_stay`) and proofs/Tables (`tables_exchanged`).
 use Rattle.std.specs.Prelude.{ℕ, suc, ◌+◌, ◌*◌, ◌≤◌, ◌<◌, ◌≡◌, false, length, take}
 use mathlib.Core.List.{List, ◌++◌, flatten}
 use Rattle.cells.specs.Cells.{largest, write}
@@ -11,7 +11,7 @@ use Rattle.codegen.specs.Generation.{accepted, lowered}
 use Rattle.pack.specs.Pack.{sheets_from, Checks, sheet_count, offset_at, length_at, sheet_at, sheets_of, look_up, lowered_in}
 use Rattle.pack.specs.Names.{names_any}
 
--- the layout of a pack in words; `packCheck` accepts exactly these (proofs/Tiles: `good-laid`, `laid-good`)
+-- the layout of a pack in words; `pack_check` accepts exactly these (proofs/Tiles: `good_laid`, `laid_good`)
 pub record Good (p : List ℕ) : Type 0 where
   pub some : 1 ≤ sheet_count p
   pub few : sheet_count p ≤ most_sheets

@@ -1,5 +1,5 @@
--- Auxiliary: the lines of records as their bytes have them. For the bytes of a list `recordsText` is the text of the list's lines, those of
--- listing's specs/Listing.antt, by the law `lines-read` (listing, proofs/Lines.antt).
+-- Auxiliary: the lines of records as their bytes have them. For the bytes of a list `records_text` is the text of the list's lines, those of
+-- listing's specs/Listing.antt, by the law `lines_read` (listing, proofs/Lines.antt).
 use Rattle.std.specs.Prelude.{ℕ, zero, suc, ◌+◌, ◌*◌, List, [], ◌∷◌, ◌++◌}
 use Rattle.cells.specs.Cells.{cell_at}
 use Rattle.text.specs.Text.{numbers_line}

@@ -35,7 +35,7 @@ abbrev pub refused_of : Outcome Totals → ℕ
 refused_of (accepted t) = t.refused
 refused_of (refused n place) = 0
 
--- ---- what is said of them, as claims; they are proved in proofs/Orders (`newest-first`, `bad-tables`)
+-- ---- what is said of them, as claims; they are proved in proofs/Orders (`newest_first`, `bad_tables`)
 
 -- "The two totals equal those taken from the first to the last": from the last sheet to the first they are the same
 abbrev pub NewestFirst : Type 0

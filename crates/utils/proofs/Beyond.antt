@@ -4,11 +4,10 @@ use mathlib.Core.Path.{◌≡◌, refl, sym, ap, ◌∙◌}
 use mathlib.Core.Bool.{Bool, true, false}
 use mathlib.Core.List.{List, [], ◌∷◌}
 use native.Mathlib.Omega.{arith}
-use native.Mathlib.Nat.{mul-suc}
 use lib.ListN.{length}
 use Rattle.ir.specs.Types.{Result, ok, refused}
 use Rattle.x86.specs.declared.enums.Instruction.{Instruction}
-use Rattle.codegen.specs.Instructions.{words_taken, floats_taken, excess}
+use Rattle.codegen.specs.Instructions.{excess}
 use Rattle.codegen.proofs.Results.{Yields, never}
 use Rattle.std.specs.Prelude.{Ok, Err}
 use Rattle.cells.specs.declared.refusals.Refusal.{Refusal}

@@ -12,7 +12,6 @@ use Rattle.codegen.proofs.Results.{Yields, never}
 use Rattle.std.specs.Prelude.{Ok, Err}
 use Rattle.std.specs.Prelude as std
 use Rattle.cells.specs.declared.refusals.Refusal.{Refusal}
-use Rattle.cells.specs.Refusals.{number_of_refusal}
 use Rattle.utils.specs.Answers.{counted}
 use Rattle.utils.specs.Makes.{alone, Makes, Ready, then}
 use Rattle.utils.proofs.Made.{Going, begins, next_ready, next, stops, finishes}

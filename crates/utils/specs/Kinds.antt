@@ -1,4 +1,4 @@
--- Auxiliary: what the code's answers say of an operand's kind, in the words of codegen's `operandKind`.
+-- Auxiliary: what the code's answers say of an operand's kind, in the words of codegen's `operand_kind`.
 use Rattle.ir.specs.declared.VarId.{VarId}
 use Rattle.ir.specs.Types.{Result, ok, refused, ◌>>=◌, type_size, is_float, is_unsigned}
 use Rattle.codegen.specs.Instructions as spec

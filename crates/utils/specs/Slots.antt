@@ -1,7 +1,7 @@
--- Auxiliary: a variable that is stored to. What its look-ups find is made into codegen's lists by `slot-looked` (proofs/Looked).
+-- Auxiliary: a variable that is stored to. What its look-ups find is made into codegen's lists by `slot_looked` (proofs/Looked).
 use Rattle.std.specs.Prelude.{List, [], ◌∷◌}
 use Rattle.ir.specs.declared.VarId.{VarId}
-use Rattle.ir.specs.Types.{Result, ok, refused, ◌>>=◌}
+use Rattle.ir.specs.Types.{Result, ok, ◌>>=◌}
 use Rattle.x86.specs.declared.enums.Size.{Size}
 use Rattle.x86.specs.declared.enums.Operand.{Operand}
 use Rattle.x86.specs.declared.enums.Instruction.{Instruction}

@@ -1,4 +1,4 @@
--- Auxiliary: a load in two parts, its look-up and its record; `loadOperand` is these two, by `sourced` (proofs/Sources).
+-- Auxiliary: a load in two parts, its look-up and its record; `load_operand` is these two, by `sourced` (proofs/Sources).
 use Rattle.std.specs.Prelude.{Bool, true, false, cond}
 use Rattle.ir.specs.declared.Operand.{Operand as IrOp}
 use Rattle.ir.specs.Types.{Result, ok, refused, ◌>>=◌, operand_size}
@@ -26,7 +26,7 @@ abbrev pub float_size_of : Result Bool → Size
 float_size_of (ok short) = cond short Size.U32 Size.U64
 float_size_of (refused n) = Size.U64
 
--- an operand's own size: codegen's `ownSize` wherever the operand has a source, by `own-found` (proofs/Sources)
+-- an operand's own size: codegen's `own_size` wherever the operand has a source, by `own_found` (proofs/Sources)
 abbrev pub own_size_of : Context → IrOp → Size
 own_size_of ctx (IrOp.Var v) = operand_size (IrOp.Var v)
 own_size_of ctx (IrOp.Int n short unsigned) = operand_size (IrOp.Int n short unsigned)

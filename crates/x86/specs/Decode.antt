@@ -34,7 +34,7 @@ look_up (e ∷ es) k = cond (eqb e.0 k) (some e.1) (look_up es k)
 abbrev pub sizes : List (ℕ × Size)
 sizes = (0, Size.NoSize) ∷ (1, Size.U8) ∷ (2, Size.U16) ∷ (4, Size.U32) ∷ (8, Size.U64) ∷ []
 
--- the codes of conditions, each with its number: the numbers are `conditionCode`'s alone
+-- the codes of conditions, each with its number: the numbers are `condition_code`'s alone
 abbrev pub conditions : List (ℕ × ConditionCode)
 conditions =
     map (λ (cc : ConditionCode). (condition_code cc, cc)) (ConditionCode.E ∷ ConditionCode.NE ∷ ConditionCode.G ∷ ConditionCode.GE ∷ ConditionCode.L

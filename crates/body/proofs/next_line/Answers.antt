@@ -1,6 +1,3 @@
-use mathlib.Core.Path.{sym, ap, ◌∙◌}
-use Rattle.std.specs.Prelude.{Ok}
-use Rattle.layout.specs.Layout.{Checked, cursor}
 use Rattle.body.proofs.Running.{right_behind}
 use Rattle.body.proofs.next_line.Goals as goal
 

@@ -5,7 +5,7 @@ use Rattle.layout.specs.Layout.{cursor}
 use Rattle.layout.proofs.Laws.{head_laid}
 use Rattle.layout.proofs.Walk.{has_params}
 use Rattle.body.specs.Body.{survey_says}
-use Rattle.body.proofs.Running.{survey_made, never_refused, never_wrong}
+use Rattle.body.proofs.Running.{never_wrong}
 use Rattle.body.proofs.write_body.Goals as goal
 
 pub body_from-requires : goal.body_from-requires

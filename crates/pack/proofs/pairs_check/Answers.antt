@@ -1,5 +1,6 @@
 use Rattle.std.proofs.Common.{rules, arith}
 use Rattle.cells.proofs.Turns.{goes_on, stops, ends}
+use Rattle.layout.specs.Layout.{end_check}
 use Rattle.pack.specs.Pack.{pairs_check}
 use Rattle.pack.proofs.pairs_check.Goals as goal
 
@@ -15,5 +16,5 @@ unfolding pairs_check
 loop-preserved c = (goes_on _ _ c.loop.invariant.0 _ c.loop-test.true (search rules), search rules)
 
 pub returns : goal.returns
-unfolding pairs_check
+unfolding pairs_check end_check
 returns c = ends _ _ c.loop.invariant.0 c.loop-test.false (search rules)

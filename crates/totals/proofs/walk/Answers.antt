@@ -37,12 +37,12 @@ pub loop-i-preserved : goal.loop-i-preserved
 loop-i-preserved c =
     let some : 0 < c.cell_at-sheets.result - c.loop-i.i = omega (arith, c.loop-i-test.true) in
     elim c.match-count.branch [
-    | in-Ok w ↦
-        let h = (lowers _ _ c.loop-i.invariant some (said _ _ _ _ _ (sym (ap outcome w.in-Ok.is)) c.count.ensures c.sheet_at.ensures.part)).1 in
-        rw (w.records-is, w.refused-is) (one_fewer _ _ _ _ h)
-    | in-Err w ↦
-        let h = turns_away _ _ c.loop-i.invariant some (said _ _ _ _ _ (sym (ap outcome w.in-Err.is)) c.count.ensures c.sheet_at.ensures.part) in
-        rw (w.records-is, w.refused-is) (one_fewer _ _ _ _ h)
+      | in-Ok w ↦
+          let h = (lowers _ _ c.loop-i.invariant some (said _ _ _ _ _ (sym (ap outcome w.in-Ok.is)) c.count.ensures c.sheet_at.ensures.part)).1 in
+          rw (w.records-is, w.refused-is) (one_fewer _ _ _ _ h)
+      | in-Err w ↦
+          let h = turns_away _ _ c.loop-i.invariant some (said _ _ _ _ _ (sym (ap outcome w.in-Err.is)) c.count.ensures c.sheet_at.ensures.part) in
+          rw (w.records-is, w.refused-is) (one_fewer _ _ _ _ h)
     ]
 
 pub returns : goal.returns

@@ -50,8 +50,7 @@ pub overflow_add-made : goal.overflow_add-made
 overflow_add-made c =
     let h = c.args.context.now in
     let made = rw c.in-Ok.is at c.func_prologue.ensures in
-    omega
-    (
+    omega (
       arith,
       made_few h.tables.now h.offsets.now _ _ _ _ c.cell_at.ensures c.cell_at-count.ensures _ c.requires.ready made c.write_body.ensures c.requires.needed,
       c.well_formed,
@@ -61,8 +60,7 @@ pub func_epilogue-requires : goal.func_epilogue-requires
 func_epilogue-requires c =
     let h = c.args.context.now in
     let made = rw c.in-Ok.is at c.func_prologue.ensures in
-    omega
-    (
+    omega (
       arith,
       (last_ready h.tables.now h.offsets.now _ _ _ _ c.cell_at.ensures c.cell_at-count.ensures _ c.requires.ready made c.write_body.ensures c.requires.needed
           c.if-made-frame.true).room refl,

@@ -1,4 +1,4 @@
-use Rattle.std.proofs.Common.{rules, sym}
+use Rattle.std.proofs.Common.{rules}
 use Rattle.cells.proofs.Turns.{goes_on, stops, ends}
 use Rattle.layout.specs.Layout.{end_check, floats_check}
 use Rattle.layout.proofs.tables.floats_check.Goals as goal
@@ -16,5 +16,5 @@ unfolding floats_check end_check
 loop-preserved c = goes_on _ _ c.loop.invariant _ c.loop-test.true (search rules)
 
 pub returns : goal.returns
-unfolding floats_check
-returns c = ends _ _ c.loop.invariant c.loop-test.false (sym c.end_check-2.ensures)
+unfolding floats_check end_check
+returns c = ends _ _ c.loop.invariant c.loop-test.false (search rules)
