@@ -83,6 +83,7 @@ fn count_list(
 }
 
 // It checks the layout of the tables and of the sheet's head, and then has the offsets of the variables. Where the layout is refused these stay as they were.
+#[tactic(auto, unfolding(crate::specs::Survey::opening, crate::specs::Survey::offsets_opened))]
 pub fn open_sheet(
     tables: &[u8],
     sheet: &[u8],
@@ -118,8 +119,9 @@ pub fn write_list(context: &Context, sheet: &[u8], frame: Frame, out: &mut [u8])
 {
     let params = 6 + 2 * cell_at(sheet, 0) as usize;
     let count = cell_at(sheet, 1);
-    let Ok(first) = func_prologue(context, sheet, count, params, frame.bytes, out, true) else {
-        return;
+    let first = match func_prologue(context, sheet, count, params, frame.bytes, out, true) {
+        Ok(first) => first,
+        Err(_) => return,
     };
     let made = first + write_body(context, sheet, first, out);
     if made < frame.records {

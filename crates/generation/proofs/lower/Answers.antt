@@ -1,38 +1,55 @@
 use mathlib.Core.Path.{refl, sym, ap, ◌∙◌}
+use Rattle.std.proofs.lemmas.Result.{err_from_is_err_and}
 use Rattle.codegen.specs.Generation.{compiled}
-use Rattle.generation.specs.Survey.{counted_says}
-use Rattle.generation.proofs.Lowering.{paged_refused, paged_full, paged_made, list_ready, so_many, left_lowered}
+use Rattle.generation.specs.Survey.{frame_says, counted_says}
+use Rattle.generation.proofs.Lowering.{paged_refused, paged_full, paged_made, left_lowered}
 use Rattle.generation.proofs.lower.Goals as goal
 
-pub survey-requires : goal.survey-requires
-survey-requires c = c.requires
+pub returns-in_err-frame-clause-answer : goal.returns-in_err-frame-clause-answer
+returns-in_err-frame-clause-answer c =
+    let t = c.args.context.now.tables.now in
+    let s = c.args.sheet.now in
+    let o = c.args.out.now in
+    let p = err_from_is_err_and c.from_residual.result c.from_residual.ensures.1 in
+    let k = sym (ap (λ r. counted_says (frame_says r)) c.in_err-frame.was) ∙ c.survey.ensures.value in
+    rw (p.1, p.2) (left_lowered t s o o _ refl (paged_refused (compiled t s) o k)).0
 
-pub returns-then-out-needed : goal.returns-then-out-needed
-returns-then-out-needed c =
-    let a = c.args in
-    let k = sym (ap counted_says c.in-Frame.is) ∙ c.survey.ensures.result_value in
-    let h' = left_lowered a.tables.now a.sheet.now a.out.now a.out.now _ refl (paged_full (compiled a.tables.now a.sheet.now) a.out.now k c.if-out-needed.true) in
-    record { result_value = h'.0; out_after = h'.1 }
+pub returns-in_err-frame-clause-bytes : goal.returns-in_err-frame-clause-bytes
+returns-in_err-frame-clause-bytes c =
+    let t = c.args.context.now.tables.now in
+    let s = c.args.sheet.now in
+    let o = c.args.out.now in
+    let k = sym (ap (λ r. counted_says (frame_says r)) c.in_err-frame.was) ∙ c.survey.ensures.value in
+    (left_lowered t s o o _ refl (paged_refused (compiled t s) o k)).1
 
-pub write_list-requires : goal.write_list-requires
-write_list-requires c =
-    let a = c.args in
-    let l = rw c.in-Frame.is at c.survey.ensures.lends_if in
-    let k = sym (ap counted_says c.in-Frame.is) ∙ c.survey.ensures.result_value in
-    record { laid = l.laid; ready = rw (← l.list) (list_ready (compiled a.tables.now a.sheet.now) k c.if-out-needed.false); needed_value = rw (← l.list) (so_many (compiled a.tables.now a.sheet.now) k) }
+pub returns-then-out-needed-clause-answer : goal.returns-then-out-needed-clause-answer
+returns-then-out-needed-clause-answer c =
+    let t = c.args.context.now.tables.now in
+    let s = c.args.sheet.now in
+    let o = c.args.out.now in
+    let k = sym (ap (λ r. counted_says (frame_says r)) c.in_ok-frame.was) ∙ c.survey.ensures.value in
+    (left_lowered t s o o _ refl (paged_full (compiled t s) o k c.if-out-needed.true)).0
 
-pub returns-else-out-needed : goal.returns-else-out-needed
-returns-else-out-needed c =
-    let a = c.args in
-    let l = rw c.in-Frame.is at c.survey.ensures.lends_if in
-    let k = sym (ap counted_says c.in-Frame.is) ∙ c.survey.ensures.result_value in
-    let h' = left_lowered a.tables.now a.sheet.now a.out.now _ _ refl
-    (paged_made (compiled a.tables.now a.sheet.now) a.out.now _ (rw l.list c.write_list.ensures) c.if-out-needed.false) in
-    record { result_value = h'.0; out_after = h'.1 }
+pub returns-then-out-needed-clause-bytes : goal.returns-then-out-needed-clause-bytes
+returns-then-out-needed-clause-bytes c =
+    let t = c.args.context.now.tables.now in
+    let s = c.args.sheet.now in
+    let o = c.args.out.now in
+    let k = sym (ap (λ r. counted_says (frame_says r)) c.in_ok-frame.was) ∙ c.survey.ensures.value in
+    (left_lowered t s o o _ refl (paged_full (compiled t s) o k c.if-out-needed.true)).1
 
-pub returns-in-Refused : goal.returns-in-Refused
-returns-in-Refused c =
-    let a = c.args in
-    let h' = left_lowered a.tables.now a.sheet.now a.out.now a.out.now _ refl
-    (paged_refused (compiled a.tables.now a.sheet.now) a.out.now (sym (ap counted_says c.in-Refused.is) ∙ c.survey.ensures.result_value)) in
-    record { result_value = h'.0; out_after = h'.1 }
+pub returns-clause-answer : goal.returns-clause-answer
+returns-clause-answer c =
+    let t = c.args.context.now.tables.now in
+    let s = c.args.sheet.now in
+    let o = c.args.out.now in
+    let l = c.in_ok-frame.ensures.lends in
+    (left_lowered t s o c.write_list.new.out _ refl (paged_made (compiled t s) o c.write_list.new.out (rw l.list c.write_list.ensures) c.if-out-needed.false)).0
+
+pub returns-clause-bytes : goal.returns-clause-bytes
+returns-clause-bytes c =
+    let t = c.args.context.now.tables.now in
+    let s = c.args.sheet.now in
+    let o = c.args.out.now in
+    let l = c.in_ok-frame.ensures.lends in
+    (left_lowered t s o c.write_list.new.out _ refl (paged_made (compiled t s) o c.write_list.new.out (rw l.list c.write_list.ensures) c.if-out-needed.false)).1

@@ -1,25 +1,31 @@
-use Rattle.generation.proofs.Lowering.{instrs_say, end_says, survey_says}
+use mathlib.Core.Path.{sym, ap}
+use Rattle.std.proofs.lemmas.Result.{err_from_is_err_and}
+use Rattle.body.specs.Body.{survey_says}
+use Rattle.generation.proofs.Lowering as whole
+use Rattle.generation.proofs.Lowering.{instrs_say, end_says}
 use Rattle.generation.proofs.pass.survey.Goals as goal
 
 pub survey_body-requires : goal.survey_body-requires
 survey_body-requires c = c.requires.head
 
-pub count_list-requires : goal.count_list-requires
-count_list-requires c =
-    record { sheet_value = c.requires.head; total_value = c.requires.sizes; body_bound = rw c.in-Laid.is at c.survey_body.ensures.result_bound }
+pub returns-in_err-found-clause-value : goal.returns-in_err-found-clause-value
+returns-in_err-found-clause-value c =
+    let p = err_from_is_err_and c.from_residual.result c.from_residual.ensures.1 in
+    rw (p.1, p.2) (instrs_say _ _ _ c.requires c.survey_body.ensures.value (ap survey_says c.in_err-found.was)).0
 
-pub returns-in-Behind : goal.returns-in-Behind
-returns-in-Behind c =
-    let h' = survey_says _ _ _ c.requires c.survey_body.ensures.value c.in-Laid.is c.end_check.ensures c.in-Behind.is
-    c.count_list.ensures in
-    record { result_value = h'.0; lends_if = h'.1 }
+pub returns-in_err-end_check-clause-value : goal.returns-in_err-end_check-clause-value
+returns-in_err-end_check-clause-value c =
+    let q = c.from_residual-in_err-end_check in
+    let p = err_from_is_err_and q.result q.ensures.1 in
+    rw (p.1, p.2)
+    (end_says _ _ _ c.requires c.survey_body.ensures.value (ap survey_says c.in_ok-found.was) c.end_check.ensures c.in_err-end_check.was).0
 
-pub returns-in-Refused : goal.returns-in-Refused
-returns-in-Refused c =
-    let h' = end_says _ _ _ c.requires c.survey_body.ensures.value c.in-Laid.is c.end_check.ensures c.in-Refused.is in
-    record { result_value = h'.0; lends_if = h'.1 }
+pub returns-clause-value : goal.returns-clause-value
+returns-clause-value c =
+    (whole.survey_says _ _ _ c.requires c.survey_body.ensures.value (ap survey_says c.in_ok-found.was) c.end_check.ensures c.in_ok-end_check.was
+    c.count_list.ensures).0
 
-pub returns-in-Wrong : goal.returns-in-Wrong
-returns-in-Wrong c =
-    let h' = instrs_say _ _ _ c.requires c.survey_body.ensures.value c.in-Wrong.is in
-    record { result_value = h'.0; lends_if = h'.1 }
+pub returns-clause-lends : goal.returns-clause-lends
+returns-clause-lends c =
+    (whole.survey_says _ _ _ c.requires c.survey_body.ensures.value (ap survey_says c.in_ok-found.was) c.end_check.ensures c.in_ok-end_check.was
+    c.count_list.ensures).1

@@ -14,68 +14,70 @@ overflow_mul-params c = omega (arith, has_vars c.requires.laid, c.cell_at.ensure
 pub overflow_add-params : goal.overflow_add-params
 overflow_add-params c = omega (arith, has_vars c.requires.laid, c.cell_at.ensures)
 
-pub cell_at-requires-2 : goal.cell_at-requires-2
-cell_at-requires-2 c = omega (arith, has_header c.requires.laid)
+pub cell_at-count-requires : goal.cell_at-count-requires
+cell_at-count-requires c = omega (arith, has_header c.requires.laid)
 
-pub func_prologue-requires : goal.func_prologue-requires
-func_prologue-requires c =
-    let a = c.cell_at.ensures in
-    let b = c.cell_at-2.ensures in
-    let r = first_ready _ _ _ _ _ _ a b c.args.out.now c.requires.ready in
-    record { n_bound = omega (arith, has_params c.requires.laid, a, b); n_le_most_parameters = omega (arith, head_params _ (head_laid c.requires.laid), b); ready = r }
+pub func_prologue-requires-clause-n_bound : goal.func_prologue-requires-clause-n_bound
+func_prologue-requires-clause-n_bound c = omega (arith, has_params c.requires.laid, c.cell_at.ensures, c.cell_at-count.ensures)
 
-pub returns-in-Refused : goal.returns-in-Refused
-returns-in-Refused c = first_never _ _ _ _ _ _ c.cell_at.ensures c.cell_at-2.ensures _ c.requires.ready (rw c.in-Refused.is at c.func_prologue.ensures)
+pub func_prologue-requires-clause-n_le_most_parameters : goal.func_prologue-requires-clause-n_le_most_parameters
+func_prologue-requires-clause-n_le_most_parameters c = omega (arith, head_params _ (head_laid c.requires.laid), c.cell_at-count.ensures)
 
-pub write_body-requires : goal.write_body-requires
-write_body-requires c =
-    let a = c.cell_at.ensures in
-    let b = c.cell_at-2.ensures in
-    let m = rw c.in-Records.is at c.func_prologue.ensures in
-    record { laid = c.requires.laid; first_bound = first_short _ _ _ _ _ _ a b _ c.requires.ready m (omega (arith, head_params _ (head_laid c.requires.laid), b)); ready = body_ready _ _ _ _ _ _ a b _ c.requires.ready m }
+pub func_prologue-requires-clause-ready : goal.func_prologue-requires-clause-ready
+func_prologue-requires-clause-ready c =
+    let h = c.args.context.now in
+    first_ready h.tables.now h.offsets.now _ _ _ _ c.cell_at.ensures c.cell_at-count.ensures c.args.out.now c.requires.ready
+
+pub returns-in-Err : goal.returns-in-Err
+returns-in-Err c =
+    let h = c.args.context.now in
+    first_never h.tables.now h.offsets.now _ _ _ _ c.cell_at.ensures c.cell_at-count.ensures _ c.requires.ready (rw c.in-Err.is at c.func_prologue.ensures)
+
+pub write_body-requires-clause-first_bound : goal.write_body-requires-clause-first_bound
+write_body-requires-clause-first_bound c =
+    let h = c.args.context.now in
+    let made = rw c.in-Ok.is at c.func_prologue.ensures in
+    first_short h.tables.now h.offsets.now _ _ _ _ c.cell_at.ensures c.cell_at-count.ensures _ c.requires.ready made
+    (omega (arith, head_params _ (head_laid c.requires.laid), c.cell_at-count.ensures))
+
+pub write_body-requires-clause-ready : goal.write_body-requires-clause-ready
+write_body-requires-clause-ready c =
+    let h = c.args.context.now in
+    let made = rw c.in-Ok.is at c.func_prologue.ensures in
+    body_ready h.tables.now h.offsets.now _ _ _ _ c.cell_at.ensures c.cell_at-count.ensures _ c.requires.ready made
 
 pub overflow_add-made : goal.overflow_add-made
 overflow_add-made c =
-    let a = c.cell_at.ensures in
-    let b = c.cell_at-2.ensures in
-    let m = rw c.in-Records.is at c.func_prologue.ensures in
-    let w = c.write_body.ensures in
-    omega (arith, made_few _ _ _ _ _ _ a b _ c.requires.ready m w c.requires.needed_value, c.ranges.needed)
-
-pub overflow_mul-made : goal.overflow_mul-made
-overflow_mul-made c =
-    omega (
+    let h = c.args.context.now in
+    let made = rw c.in-Ok.is at c.func_prologue.ensures in
+    omega
+    (
       arith,
-      let a = c.cell_at.ensures in
-          let b = c.cell_at-2.ensures in
-          let m = rw c.in-Records.is at c.func_prologue.ensures in
-          let w = c.write_body.ensures in
-          (last_ready _ _ _ _ _ _ a b _ c.requires.ready m w c.requires.needed_value c.if-made-needed.true).room refl,
+      made_few h.tables.now h.offsets.now _ _ _ _ c.cell_at.ensures c.cell_at-count.ensures _ c.requires.ready made c.write_body.ensures c.requires.needed,
+      c.well_formed,
     )
 
 pub func_epilogue-requires : goal.func_epilogue-requires
 func_epilogue-requires c =
-    omega (
+    let h = c.args.context.now in
+    let made = rw c.in-Ok.is at c.func_prologue.ensures in
+    omega
+    (
       arith,
-      let a = c.cell_at.ensures in
-          let b = c.cell_at-2.ensures in
-          let m = rw c.in-Records.is at c.func_prologue.ensures in
-          let w = c.write_body.ensures in
-          (last_ready _ _ _ _ _ _ a b _ c.requires.ready m w c.requires.needed_value c.if-made-needed.true).room refl,
+      (last_ready h.tables.now h.offsets.now _ _ _ _ c.cell_at.ensures c.cell_at-count.ensures _ c.requires.ready made c.write_body.ensures c.requires.needed
+          c.if-made-frame.true).room refl,
     )
 
-pub returns-then-made-needed : goal.returns-then-made-needed
-returns-then-made-needed c =
-    let a = c.cell_at.ensures in
-    let b = c.cell_at-2.ensures in
-    let m = rw c.in-Records.is at c.func_prologue.ensures in
-    let w = c.write_body.ensures in
-    last_written _ _ _ _ _ _ a b _ c.requires.ready m w c.requires.needed_value c.if-made-needed.true c.func_epilogue.ensures
+pub returns-then-made-frame : goal.returns-then-made-frame
+returns-then-made-frame c =
+    let h = c.args.context.now in
+    let made = rw c.in-Ok.is at c.func_prologue.ensures in
+    last_written h.tables.now h.offsets.now _ _ _ _ c.cell_at.ensures c.cell_at-count.ensures _ c.requires.ready made c.write_body.ensures c.requires.needed
+    c.if-made-frame.true c.func_epilogue.ensures
 
-pub returns-else-made-needed : goal.returns-else-made-needed
-returns-else-made-needed c =
-    let a = c.cell_at.ensures in
-    let b = c.cell_at-2.ensures in
-    let m = rw c.in-Records.is at c.func_prologue.ensures in
-    let w = c.write_body.ensures in
-    all_written _ _ _ _ _ _ a b _ c.requires.ready m w c.requires.needed_value c.if-made-needed.false
+pub returns-else-made-frame : goal.returns-else-made-frame
+returns-else-made-frame c =
+    let h = c.args.context.now in
+    let made = rw c.in-Ok.is at c.func_prologue.ensures in
+    all_written h.tables.now h.offsets.now _ _ _ _ c.cell_at.ensures c.cell_at-count.ensures _ c.requires.ready made c.write_body.ensures c.requires.needed
+    c.if-made-frame.false
