@@ -31,6 +31,7 @@ fn to_other(e: Edition, sheet: &[u8], out: &mut [u8], place: &mut u64) -> u64
     }
 }
 
+// C has a name for each edition.
 // It writes a sheet of edition 1 in edition 2. It gives 0, with the number of cells in `place`, or the number of a refusal, with its place.
 pub fn gilthoren_to_edition2(sheet: &[u8], out: &mut [u8], place: &mut u64) -> u64
     ensures number { result ≡ number_of (converted Edition.First sheet.now (length out.old)) }

@@ -27,6 +27,7 @@ pub fn gilthoren_pack_lower(
     ensures demand2 { result ≡ 0 → Demand2 tables.now (sheet_at pack.now number) records.new place.new }
     ensures demand3 { result ≡ 0 → Plain tables.now (sheet_at pack.now number) → Demand3 tables.now (sheet_at pack.now number) records.new place.new }
 {
+    // A number, as `sheet` answers: it hands back a part of the pack on a refusal too.
     let mut refusal: u64 = 0;
     let found = sheet(pack, number, &mut refusal, place);
     if 0 < refusal {

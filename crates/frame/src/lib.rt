@@ -112,6 +112,7 @@ fn store_param(
     store_one(context, float, k, p, out, at, write)
 }
 
+// `float` is what the definition `store_params` is given: both are one loop.
 // It stores the parameters that are floats, or those that are not.
 fn store_params(
     context: &Context,

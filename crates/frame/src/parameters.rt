@@ -1,4 +1,5 @@
-// The parameters of a function stand in its sheet, `count` of them from cell `from` on.
+// The parameters of a function stand in its sheet, `count` of them from cell `from` on. They are as the arguments in calls: one type for both would take what
+// reads an item, its width and the limit from a trait, and is no plainer.
 ghost use Rattle.std.specs.Prelude.{◌≡◌, ◌+◌, ◌*◌, ◌≤◌, ◌<◌};
 ghost use Rattle.cells.specs.Cells.{cells};
 ghost use Rattle.ir.specs.Function.{var_at};

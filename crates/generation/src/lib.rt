@@ -19,6 +19,7 @@ use cells::cell_at;
 use cells::refusals::{Refusal, Refused};
 use utils::context::Context;
 
+// There is no heap: the offsets are an array, and a slice of as many as there are variables where they are handed on.
 // It counts the records that a sheet needs. The refusals are 1 to 7.
 pub fn count(tables: &[u8], sheet: &[u8]) -> Result<u64, Refused>
     ensures { outcome result ≡ counted_outcome (compiled tables.now sheet.now) }

@@ -10,6 +10,7 @@ ghost use Rattle.std.specs.Prelude.{◌≡◌};
 ghost use Rattle.ir.specs.Function.{unary_op, binary_op};
 
 // Krc's `Type` is an element code from 1 to 12, and a count, which is the pattern of -1 where the type is no array. As a return type code 0 is none.
+// The code stays a number, and so does what asks for it: `type_at` gives that of any cell and cannot fail.
 #[derive(Clone, Copy, Debug, PartialEq, Eq)]
 pub struct Type {
     pub code: u64,

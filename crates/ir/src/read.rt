@@ -29,6 +29,7 @@ pub fn var_at(s: &[u8], k: usize) -> VarId
     }
 }
 
+// Here, in `dest_at` and in `instr_at` the numbers of the format become the enums.
 #[tactic(auto, unfolding(crate::specs::Function::operand_at))]
 pub fn operand_at(s: &[u8], k: usize) -> Operand
     requires { k + 4 ≤ cells s.now }

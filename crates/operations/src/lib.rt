@@ -167,6 +167,7 @@ fn divide(op: ComplexBinOp, size: Size) -> Instruction
     }
 }
 
+// `unsigned` is what `dividing` is given, and no switch between two ways of more than two records.
 // RDX is cleared for an unsigned dest, else RAX's sign is extended into it.
 fn put_dividing(out: &mut [u8], at: usize, unsigned: bool, size: Size)
     requires { at + 128 ≤ length out.old }

@@ -11,6 +11,7 @@ pub enum InputError {
     NoTables,
 }
 
+// What it gives is a number and no slices, by `split_of`.
 // It gives how many cells behind the first are the tables; all bytes behind those are the sheet.
 #[tactic(auto, unfolding(crate::specs::Input::split_of))]
 pub fn split(input: &[u8]) -> Result<usize, InputError>

@@ -36,6 +36,7 @@ fn digit(d: u64) -> u8
     48 + d as u8
 }
 
+// Numbers are written on lent bytes, with no heap, the highest digit first: a loop would have to count the digits before it.
 // It puts a number in decimal, in at most `most` digits, from `at` on; the answer is the place behind it.
 fn put_digits(out: &mut [u8], at: usize, most: usize, n: u64) -> usize
     requires { at + most ≤ length out.old }

@@ -34,6 +34,7 @@ pub enum Operand {
     MemoryAddress(MemAddress),
 }
 
+// A record has two numbers of an operand, so that there is no one `From`.
 impl Operand {
     pub fn tag(self) -> u64
         ensures { result ≡ tag_of self }
