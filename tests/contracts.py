@@ -1,7 +1,6 @@
 #!/usr/bin/env python3
 """Holds the table of public operations in docs/CONTRACTS.md to the code: each `pub fn` of crates/*/src stands in a row of its crate, a method as
-`Type::name`, and no row names what is not there. A row may also name a conversion, as `From<A> for B`, which then is there. The files that the page names are
-there.
+`Type::name`, and so does each conversion of a library crate, as `From<A> for B`; and no row names what is not there. The files that the page names are there.
 
 usage: contracts.py
 """
@@ -27,7 +26,9 @@ def operations(crate):
 
 
 def conversions(crate):
-    """The `impl From`s of a crate, each as its head."""
+    """The `impl From`s of a crate, each as its head. A program's are its own."""
+    if (crate / "src/main.rt").exists():
+        return set()
     files = sorted((crate / "src").rglob("*.rt"))
     return {head for file in files for head in re.findall(r"^impl (From<\w+> for \w+) \{", file.read_text(encoding="utf-8"), re.M)}
 
@@ -54,10 +55,9 @@ def main():
                 raise SystemExit(f"contracts: {PAGE} names {name} of {crate} twice")
             named[crate].add(name)
     crates = [crate for crate in sorted((ROOT / "crates").iterdir()) if (crate / "src").is_dir()]
-    public = {crate.name: operations(crate) for crate in crates}
-    there = {crate.name: public[crate.name] | conversions(crate) for crate in crates}
+    public = {crate.name: operations(crate) | conversions(crate) for crate in crates}
     wrong = [f"{PAGE} names no {crate} `{name}`" for crate in public for name in sorted(public[crate] - named.get(crate, set()))]
-    wrong += [f"{PAGE} names {crate} `{name}`, which is not there" for crate in named for name in sorted(named[crate] - there.get(crate, set()))]
+    wrong += [f"{PAGE} names {crate} `{name}`, which is not there" for crate in named for name in sorted(named[crate] - public.get(crate, set()))]
     wrong += [f"{PAGE} names crates/{path}, which is not there" for path in lost_files()]
     if wrong or not named:
         raise SystemExit("contracts: " + "\ncontracts: ".join(wrong or [f"{PAGE} has no rows"]))

@@ -10,6 +10,7 @@ ghost use Rattle.x86.specs.Records.{record_of, record_bytes, list_bytes};
 ghost use Rattle.codegen.specs.Arithmetic.{float_binary, integer_binary, generate_binary, sign_bit, generate_unary};
 ghost use Rattle.utils.specs.Answers.{held};
 ghost use Rattle.utils.specs.Makes.{Makes, Ready};
+ghost use Rattle.arithmetic.specs.Codes.{comparison_code};
 ghost use Rattle.arithmetic.specs.Unary.{look_unary, changed_of, sign_of, unary_record, flips_sign};
 
 use cells::refusals::Refusal;
@@ -69,7 +70,21 @@ fn right_shift(ty: Type) -> ShiftOp
     }
 }
 
-// The logical pair never reaches the lowering.
+// A comparison has this code, and no other operation is asked for.
+fn comparison_code(op: BinaryOp) -> ConditionCode
+    ensures { result ≡ comparison_code op }
+{
+    match op {
+        BinaryOp::Eq => ConditionCode::E,
+        BinaryOp::NotEq => ConditionCode::NE,
+        BinaryOp::Lt => ConditionCode::L,
+        BinaryOp::Le => ConditionCode::LE,
+        BinaryOp::Gt => ConditionCode::G,
+        _ => ConditionCode::GE,
+    }
+}
+
+// The logical pair never reaches the lowering. All comparisons are one call of their maker, which is inlined there.
 fn integer_binary(
     context: &Context,
     line: &Line,
@@ -86,12 +101,12 @@ fn integer_binary(
         BinaryOp::BitOr => simple_operation(context, line, BinOp::Or, out, at, write),
         BinaryOp::BitXor => simple_operation(context, line, BinOp::Xor, out, at, write),
         BinaryOp::BitAnd => simple_operation(context, line, BinOp::And, out, at, write),
-        BinaryOp::Eq => comparison(context, line, ConditionCode::E, out, at, write),
-        BinaryOp::NotEq => comparison(context, line, ConditionCode::NE, out, at, write),
-        BinaryOp::Lt => comparison(context, line, ConditionCode::L, out, at, write),
-        BinaryOp::Le => comparison(context, line, ConditionCode::LE, out, at, write),
-        BinaryOp::Gt => comparison(context, line, ConditionCode::G, out, at, write),
-        BinaryOp::Ge => comparison(context, line, ConditionCode::GE, out, at, write),
+        BinaryOp::Eq
+        | BinaryOp::NotEq
+        | BinaryOp::Lt
+        | BinaryOp::Le
+        | BinaryOp::Gt
+        | BinaryOp::Ge => comparison(context, line, comparison_code(op), out, at, write),
         BinaryOp::Shl => shift(context, line, ShiftOp::Shl, out, at, write),
         BinaryOp::Shr => {
             let shift_op = right_shift(line.dest().ty);

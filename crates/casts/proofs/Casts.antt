@@ -141,3 +141,15 @@ cast_looked ctx dest src = go (operand_kind ctx src) refl (type_size dest.ty)
         ∙ each (convert_operand ctx src) _ _ (λ x. between_found ctx dest (source_from src (kind_of k) x) n (is_unsigned dest.ty)))
     go (ok k) e (refused m) = refl
     go (refused m) e z = refl
+
+-- ---- a cast of an unsigned short to eight bytes (M-105)
+
+module _ (ctx : Context) (dest : VarId) (src : IrOp) where
+  pub no_load : {n : ℕ} → source_of ctx src ≡ refused n → zero_extended ctx dest src ≡ refused n
+  unfolding zero_extended
+  no_load e = rw (sized ctx RAX src Size.U32 (λ z. refl), e)
+
+  module _ {k : spec.Kind} (e : operand_kind ctx src ≡ ok k) {n : ℕ} (f : type_size dest.ty ≡ ok n) (g : is_copy k (is_float dest.ty) n ≡ false) where
+    pub is_zero_extended : (not (is_float dest.ty) && is_unsigned_short src) ≡ true → generate_cast ctx dest src ≡ zero_extended ctx dest src
+    unfolding generate_cast
+    is_zero_extended z = rw (e, f, g, z)

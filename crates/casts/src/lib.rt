@@ -26,10 +26,10 @@ use x86::register::Register;
 
 // What is cast is an operand of a kind. A constant is loaded into RAX, by this size; one byte that is no float is widened there.
 #[derive(Clone, Copy)]
-struct Source {
-    operand: Operand,
-    constant: Option<Size>,
-    kind: Kind,
+pub struct Source {
+    pub operand: Operand,
+    pub constant: Option<Size>,
+    pub kind: Kind,
 }
 
 impl Source {

@@ -1,14 +1,14 @@
 -- What a conversion answers, told as the code finds it.
 use Rattle.std.proofs.Common.{◌≡◌, ℕ, ◌*◌, Bool, true, false, cond, List, length, refl}
 use Rattle.std.specs.Prelude.{ltb, Option, Some, None, Result, Ok, Err}
-use Rattle.cells.specs.Outcomes.{accepted, refused, ◌>>=◌, outcome}
+use Rattle.cells.specs.Outcomes.{accepted, refused, ◌>>=◌, amount, outcome}
 use Rattle.cells.specs.Refusals.{page_full, type_differs}
 use Rattle.cells.specs.declared.refusals.Refusal.{Refusal}
 use Rattle.cells.specs.declared.refusals.Refused.{Refused}
 use Rattle.layout.specs.declared.Edition.{Edition}
-use Rattle.layout.specs.Layout.{Checked, refuse, bind_checked, sheet_in}
+use Rattle.layout.specs.Layout.{Checked, refuse, bind_checked, sheet_in, LaidIn}
 use Rattle.layout.proofs.Walk.{laid_from}
-use Rattle.edition.specs.Editions.{other, ids, stray_in, sheet_cells, unless, converted}
+use Rattle.edition.specs.Editions.{other, ids, stray_in, sheet_cells, unless, converted, output_after}
 use Rattle.edition.specs.Answers.{looked_up, refused_if}
 use Rattle.edition.specs.Walked.{Entered}
 use Rattle.edition.proofs.Parts.{none_stray}
@@ -34,6 +34,17 @@ converted_is e s room = go (sheet_in e s) (stray_in e s (ids e s)) (ltb room (8 
     go (Ok end) (Some k) short = refl
     go (Ok end) None true = refl
     go (Ok end) None false = refl
+
+-- an answer, and the output afterwards
+pub record Answered (e : Edition) (s old new : List ℕ) (r : Result ℕ Refused) : Type 0 where
+  pub says : outcome r ≡ amount length (converted e s (length old))
+  pub bytes : new ≡ output_after (converted e s (length old)) old
+
+pub says_stray : (e : Edition) (s old : List ℕ) → LaidIn e s → {k : ℕ} → Some k ≡ stray_in e s (ids e s) → Answered e s old old (refuse Refusal.TypeDiffers k)
+unfolding converted output_after
+says_stray e s old laid {k} h =
+    let g : converted e s (length old) ≡ refused type_differs k = rw (laid.is, ← h) refl in
+    record { says = rw g refl; bytes = rw g refl }
 
 -- ids that were looked up have entries
 pub agreed_entered : (e : Edition) (s ks : List ℕ) {u : Unit {0}} → looked_up e s ks ≡ Ok u → Entered s ks

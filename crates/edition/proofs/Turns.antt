@@ -1,6 +1,6 @@
 -- Lists of parts in a loop that is behind i of n: the part at hand, and those behind it.
 use Rattle.std.proofs.Common.{◌≡◌, ℕ, suc, ◌+◌, ◌-◌, ◌<◌, ◌≤◌, List, [], ◌∷◌, ◌++◌, refl, arith}
-use Rattle.cells.specs.Cells.{cells}
+use Rattle.cells.specs.Cells.{cells, cell_at, cells_from}
 use Rattle.ir.specs.Function.{behind}
 use Rattle.layout.specs.declared.Edition.{Edition}
 use Rattle.layout.specs.Layout.{param_width}
@@ -13,6 +13,16 @@ module _ (list : ℕ → ℕ → List ℕ) (k n i : ℕ) where
 
   no_turn : list 0 k ≡ [] → n ≤ i → list (n - i) k ≡ []
   no_turn none h = let l : n - i ≡ 0 = omega arith in rw l none
+
+-- cells that are copied one by one, from the first on
+module _ (s : List ℕ) (n i : ℕ) where
+  pub cells_on : i < n → cells_from s i (n - i) ≡ (cell_at s i ∷ []) ++ cells_from s (i + 1) (n - (i + 1))
+  unfolding cells_from
+  cells_on = turn (λ m k. cells_from s k m) i n i (cell_at s i ∷ []) (i + 1) (λ m. refl)
+
+  pub cells_off : n ≤ i → cells_from s i (n - i) ≡ []
+  unfolding cells_from
+  cells_off = no_turn (λ m k. cells_from s k m) i n i refl
 
 module _ (s : List ℕ) (n i k : ℕ) where
   pub operand_ids_on : i < n → operand_ids s (n - i) k ≡ operand_id s k ++ operand_ids s (n - (i + 1)) (k + 4)

@@ -21,7 +21,18 @@ fn put_cell(v: u64, out: &mut [u8])
     out.copy_from_slice(&v.to_le_bytes());
 }
 
-// It copies the `n` cells from cell k on.
+// It copies the first `n` cells, one by one: for a copy whose length only the sheet has, an archive asks C's memmove.
+fn copy_head(s: &[u8], n: usize, out: &mut [u8])
+    requires there { n ≤ cells s.now }
+    requires room { length out.old ≡ 8 * n }
+    ensures { out.new ≡ cell_bytes (cells_from s.now 0 n) }
+{
+    for i in 0..n {
+        put_cell(cell_at(s, i), &mut out[8 * i..8 * (i + 1)]);
+    }
+}
+
+// It copies the `n` cells from cell k on, a number that is known where it is called.
 fn copy_cells(s: &[u8], k: usize, n: usize, out: &mut [u8])
     requires there { k + n ≤ cells s.now }
     requires room { length out.old ≡ 8 * n }
@@ -198,7 +209,7 @@ pub(crate) fn put_sheet(e: Edition, f: Edition, sheet: &Sheet, out: &mut [u8])
     let from = 6 + 2 * cell_at(s, 0) as usize;
     let (head, rest) = out.split_at_mut(8 * from);
     let (listed, body) = rest.split_at_mut(8 * (param_width(f) * params));
-    copy_cells(s, 0, from, head);
+    copy_head(s, from, head);
     put_params(e, f, sheet, params, from, listed);
     put_instrs(
         f,

@@ -103,10 +103,7 @@ pub fn survey(context: &Context, sheet: &[u8], head: Head) -> Result<Frame, Refu
     ensures lends { LendsIf (frame_says result) context.now.tables.now sheet.now context.now.offsets.now }
 {
     let found = survey_body(context, sheet, head.from)?;
-    end_check(sheet, found.end).map_err(|w| Refused {
-        refusal: Refusal::TornSheet,
-        place: w.cell as u64,
-    })?;
+    end_check(Refusal::TornSheet, sheet, found.end)?;
     count_list(context, sheet, head, found.body)
 }
 

@@ -1,7 +1,7 @@
 // The cells, types, variables and operands of a sheet are checked here.
-ghost use Rattle.std.specs.Prelude.{◌≡◌, ◌*◌, ℕ, cond, ltb, length, Ok, Err};
+ghost use Rattle.std.specs.Prelude.{◌≡◌, ℕ};
 ghost use Rattle.cells.specs.declared.refusals.Refusal.{Refusal};
-ghost use Rattle.layout.specs.Layout.{Checked, refused_at, limited, count_check, zeros_check, fields_check, type_check, return_check, own_in, var_in, param_in, first_field, operand_in, operands_in};
+ghost use Rattle.layout.specs.Layout.{Checked, refused_at, end_check, limited, count_check, zeros_check, fields_check, type_check, return_check, own_in, var_in, param_in, first_field, operand_in, operands_in};
 ghost use Rattle.layout.specs.Steps.{Repeats};
 
 use crate::Edition;
@@ -32,11 +32,13 @@ pub(crate) fn oversize(cell: usize) -> Refused
 }
 
 // Nothing is left behind the cursor, not even a torn cell.
-pub fn end_check(s: &[u8], c: Cursor) -> Result<Cursor, WrongCell>
-    ensures { result ≡ cond (ltb (c.at * 8) (length s.now)) (Err (record { cell = c.at })) (Ok c) }
+#[tactic(auto, unfolding(crate::specs::Layout::end_check))]
+pub fn end_check(refusal: Refusal, s: &[u8], c: Cursor) -> Result<Cursor, Refused>
+    ensures { result ≡ end_check refusal s.now c }
 {
     if c.at < s.len().div_ceil(8) {
-        return Err(WrongCell { cell: c.at });
+        let place = c.at as u64;
+        return Err(Refused { refusal, place });
     }
     Ok(c)
 }

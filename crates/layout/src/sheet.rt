@@ -6,9 +6,9 @@ use crate::Edition;
 use crate::instrs::instrs_check;
 use crate::limits::{MOST_INSTRUCTIONS, MOST_LABELS, MOST_PARAMETERS, MOST_VARIABLES};
 use crate::lists::{params_check, types_check};
-use crate::parts::{end_check, limited, return_check, torn};
+use crate::parts::{end_check, limited, return_check};
 use cells::Cursor;
-use cells::refusals::Refused;
+use cells::refusals::{Refusal, Refused};
 
 // The return type and the number of instructions come before the variable types and the parameters.
 #[tactic(auto, unfolding(crate::specs::Layout::rest_in))]
@@ -40,11 +40,11 @@ pub fn head_check(e: Edition, s: &[u8]) -> Result<(u64, Cursor), Refused>
 }
 
 // The lowering checks and counts in one pass, by `head_check` and `instr_check`, and does not come here.
-#[tactic(auto, unfolding(crate::specs::Layout::sheet_in, crate::specs::Layout::end_check))]
+#[tactic(auto, unfolding(crate::specs::Layout::sheet_in))]
 pub fn sheet_check(e: Edition, s: &[u8]) -> Result<Cursor, Refused>
     ensures { result ≡ sheet_in e s.now }
 {
     let (instrs, c) = head_check(e, s)?;
     let end = instrs_check(e, s, instrs, c)?;
-    end_check(s, end).map_err(torn)
+    end_check(Refusal::TornSheet, s, end)
 }

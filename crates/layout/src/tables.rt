@@ -23,12 +23,12 @@ fn floats_check(t: &[u8], n: u64, c: Cursor) -> Result<Cursor, Refused>
 {
     let mut here = c;
     for _ in 0..n {
-        if end_check(t, here).is_ok() {
+        if end_check(Refusal::BadTable, t, here).is_ok() {
             return Ok(here);
         }
         (_, here) = here.within(t, 0, 1).map_err(bad_table)?;
     }
-    end_check(t, here).map_err(bad_table)
+    end_check(Refusal::BadTable, t, here)
 }
 
 #[tactic(auto, unfolding(crate::specs::Layout::tables_check))]

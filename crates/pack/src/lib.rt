@@ -66,7 +66,7 @@ fn pairs_check(p: &[u8], n: u64, from: usize, c: Cursor) -> Result<Cursor, Refus
     for _ in 0..n {
         (start, here) = pair_check(p, start, here)?;
     }
-    end_check(p, Cursor { at: start }).map_err(|w| bad_pack(w.cell))
+    end_check(Refusal::BadPack, p, Cursor { at: start })
 }
 
 // It checks the layout of a pack. The first wrong cell in reading order is refused by 13.

@@ -37,7 +37,9 @@ fn conditions(bytes: &[u8], n: u64) -> Option<u64>
     if !is_plain_head(&sheet) {
         return Some(0);
     }
-    first_fault(&sheet, &count_labels(bytes), n)
+    let mut counts = [0u16; 256];
+    count_labels(bytes, &mut counts);
+    first_fault(&sheet, &counts, n)
 }
 
 // It is the plain test of a sheet that the lowering accepts: the first number at fault, where there is one. It is 0 for variables, parameters, the return

@@ -5,6 +5,7 @@ ghost use Rattle.std.specs.Prelude.{◌≡◌, ◌+◌, ◌≤◌, length};
 ghost use Rattle.cells.specs.Cells.{write};
 ghost use Rattle.x86.specs.Records.{tag_of, value_of, size_code, record_of, record_bytes};
 ghost use Rattle.records.specs.Cells.{record_cells};
+ghost use Rattle.records.specs.Forms.{put_of};
 
 use x86::enums::{Instruction, Operand, Size};
 
@@ -105,5 +106,16 @@ pub fn put_instruction(out: &mut [u8], at: usize, i: Instruction)
     let words = cells_of(i);
     for k in 0..8 {
         cells::put_word(out, at + 8 * k, words[k]);
+    }
+}
+
+// It writes the record of an instruction of the form with this number. Of an instruction of another form it writes nothing.
+pub fn put_form(form: u64, out: &mut [u8], at: usize, i: Instruction)
+    requires { at + 64 ≤ length out.old }
+    ensures { out.new ≡ put_of form i out.old at }
+{
+    let (own, _) = codes_of(i);
+    if own == form {
+        put_instruction(out, at, i);
     }
 }

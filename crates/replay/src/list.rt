@@ -132,8 +132,17 @@ pub(crate) fn fill(bytes: &mut [u8]) {
     }
 }
 
-// It says whether all bytes but those of `written` stand as they were filled in.
+// It says whether the bytes at these places stand as they were filled in.
+fn is_filled(places: Range<usize>, bytes: &[u8]) -> bool {
+    for k in places {
+        if bytes.get(k) != Some(&filler(k)) {
+            return false;
+        }
+    }
+    true
+}
+
+// It says whether all bytes but those of `written`, which are not looked at, stand as they were filled in.
 pub(crate) fn is_filled_around(written: Range<usize>, bytes: &[u8]) -> bool {
-    let mut bytes = bytes.iter().enumerate();
-    bytes.all(|(k, byte)| written.contains(&k) || *byte == filler(k))
+    is_filled(0..written.start, bytes) && is_filled(written.end..bytes.len(), bytes)
 }

@@ -1,10 +1,10 @@
 // This is Krc's `Context`, but for the number of labels and the return type, which stand beside it: the tables' cells, and each variable's offset under RBP.
 ghost use Rattle.std.specs.Prelude.{◌≡◌};
-ghost use Rattle.cells.specs.Cells.{minus};
 ghost use Rattle.ir.specs.Answers.{says};
 ghost use Rattle.codegen.specs.Context.{displacement, string_at, float_short};
 ghost use Rattle.utils.specs.Answers.{held};
 
+use crate::negated;
 use cells::cell_at;
 use cells::refusals::Refusal;
 
@@ -49,16 +49,5 @@ impl<'a> Context<'a> {
         } else {
             Err(Refusal::NoEntry)
         }
-    }
-}
-
-// It gives the pattern of minus `n`.
-fn negated(n: u64) -> u64
-    ensures { result ≡ minus n }
-{
-    if n == 0 {
-        0
-    } else {
-        0xffff_ffff_ffff_ffff - n + 1
     }
 }

@@ -9,7 +9,7 @@ pub mod kinds;
 pub mod slots;
 
 ghost use Rattle.std.specs.Prelude.{◌≡◌, [], ◌∷◌, ◌+◌, ◌≤◌, length};
-ghost use Rattle.cells.specs.Cells.{write};
+ghost use Rattle.cells.specs.Cells.{minus, write};
 ghost use Rattle.ir.specs.Types.{ok};
 ghost use Rattle.x86.specs.Records.{record_of, record_bytes};
 ghost use Rattle.ir.specs.Answers.{says};
@@ -78,6 +78,17 @@ pub fn convert_operand(context: &Context, op: IrOp) -> Result<Operand, Refusal>
         IrOp::Bool(b) => Ok(Operand::Imm(u64::from(b))),
         IrOp::Address(_) | IrOp::DataAddress(_) => Err(Refusal::NoLowering),
         IrOp::Null => Ok(Operand::Imm(0)),
+    }
+}
+
+// It gives the pattern of minus `n`.
+pub fn negated(n: u64) -> u64
+    ensures { result ≡ minus n }
+{
+    if n == 0 {
+        0
+    } else {
+        0xffff_ffff_ffff_ffff - n + 1
     }
 }
 
