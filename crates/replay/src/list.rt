@@ -126,9 +126,12 @@ fn filler(k: usize) -> u8 {
     (k % 251) as u8
 }
 
+// The fillers begin anew every 251 bytes.
 pub(crate) fn fill(bytes: &mut [u8]) {
-    for (k, byte) in bytes.iter_mut().enumerate() {
-        *byte = filler(k);
+    for part in bytes.chunks_mut(251) {
+        for (k, byte) in part.iter_mut().enumerate() {
+            *byte = k as u8;
+        }
     }
 }
 
