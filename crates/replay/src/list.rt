@@ -121,14 +121,15 @@ impl<'a> Reader<'a> {
     }
 }
 
-// This byte stands at a place of the bytes that are lent before a call.
+// Before a call the bytes that are lent count up from 0, and begin anew behind so many.
+const FILLERS: usize = 251;
+
 fn filler(k: usize) -> u8 {
-    (k % 251) as u8
+    (k % FILLERS) as u8
 }
 
-// The fillers begin anew every 251 bytes.
 pub(crate) fn fill(bytes: &mut [u8]) {
-    for part in bytes.chunks_mut(251) {
+    for part in bytes.chunks_mut(FILLERS) {
         for (k, byte) in part.iter_mut().enumerate() {
             *byte = k as u8;
         }
