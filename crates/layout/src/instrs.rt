@@ -9,6 +9,7 @@ use crate::parts::{LARGEST, each, limited, operands_check, torn, var_check, zero
 use cells::Cursor;
 use cells::refusals::Refused;
 
+// Each kind has an arm of its own, so that the match becomes a table.
 fn operation_most(kind: u64) -> u64
     ensures { result ≡ operation_most kind }
 {
@@ -16,7 +17,9 @@ fn operation_most(kind: u64) -> u64
         1 => 2,
         2 => 17,
         5 => 1,
-        6 | 7 | 8 => LARGEST,
+        6 => LARGEST,
+        7 => LARGEST,
+        8 => LARGEST,
         _ => 0,
     }
 }
@@ -77,6 +80,7 @@ fn call_check(s: &[u8], c: Cursor) -> Result<(u64, Cursor), Refused>
 }
 
 // This is the number of an instruction's operands, and the cursor of the first, which of a call is behind its own cells.
+#[inline(always)]
 fn operands_of(s: &[u8], kind: u64, c: Cursor) -> Result<(u64, Cursor), Refused>
     ensures { result ≡ cond (eqb kind 5) (call_check s.now c) (Ok (sides_of kind, c)) }
 {
@@ -86,7 +90,8 @@ fn operands_of(s: &[u8], kind: u64, c: Cursor) -> Result<(u64, Cursor), Refused>
     Ok((sides_of(kind), c))
 }
 
-// Left, right and a call's arguments are read as one list, so that `operands_check` is called from one place, where it is inlined.
+// Left, right and a call's arguments are read as one list, by one call of `operands_check`.
+#[inline(always)]
 #[tactic(auto, using(crate::proofs::Sides::one_list))]
 fn body_check(e: Edition, s: &[u8], kind: u64, c: Cursor) -> Result<Cursor, Refused>
     ensures { result ≡ body_in e s.now kind c }
@@ -96,7 +101,7 @@ fn body_check(e: Edition, s: &[u8], kind: u64, c: Cursor) -> Result<Cursor, Refu
     zeros_check(s, unused_of(kind), c2)
 }
 
-// It is inlined, since its answer is three words, which a call would hand back in memory.
+// It is inlined, with what it calls but `operands_check`, since an answer is three words, which a call would hand back in memory.
 #[inline(always)]
 #[tactic(auto, unfolding(crate::specs::Layout::instr_in))]
 pub fn instr_check(e: Edition, s: &[u8], c: Cursor) -> Result<Cursor, Refused>

@@ -168,7 +168,8 @@ pub fn mov(dst: Operand, src: Operand, size: Size) -> Instruction
 }
 
 // One record brings a source into a register: a string by Lea; an XMM register is loaded by LoadF; one byte by Movzx, or by a four-byte Mov of a constant;
-// the rest by Mov.
+// the rest by Mov. It is inlined, since the source would go through memory.
+#[inline(always)]
 #[tactic(auto, unfolding(codegen::specs::Utils::load_from))]
 pub fn put_load(out: &mut [u8], at: usize, reg: Register, src: Operand, size: Size)
     requires { at + 64 ≤ length out.old }

@@ -1,4 +1,4 @@
-// Here are sizes, operands, operations and instructions. The number of a variant is its code: a position in Krc's enum, and of a size its bytes.
+// Here are sizes, operands, operations and instructions. The number of a variant is its code, a position in Krc's enum. A size has its bytes by a shift.
 ghost use Rattle.std.specs.Prelude.{◌≡◌, ◌<◌};
 ghost use Rattle.x86.specs.Records.{size_code, tag_of, value_of, condition_code, bin_code, shift_code, complex_code, unary_code, stack_code, ctrl_code, prefix_code, string_code, extend_code, conv_code};
 ghost use Rattle.x86.specs.Decode.{condition_of};
@@ -9,18 +9,19 @@ use crate::register::Register;
 // This is Krc's `Option<Size>`.
 #[derive(Clone, Copy, Debug, PartialEq, Eq)]
 pub enum Size {
-    NoSize = 0,
-    U8 = 1,
-    U16 = 2,
-    U32 = 4,
-    U64 = 8,
+    NoSize,
+    U8,
+    U16,
+    U32,
+    U64,
 }
 
+// The bytes are 0, 1, 2, 4 or 8. They are no numbers of the variants, since numbers with gaps become a table or a jump wherever a record is written.
 impl From<Size> for u64 {
     ghost from_gives = { λ size n. n ≡ size_code size };
 
     fn from(size: Size) -> u64 {
-        size as u64
+        (1 << (size as u64)) / 2
     }
 }
 
