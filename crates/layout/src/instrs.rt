@@ -101,7 +101,7 @@ fn body_check(e: Edition, s: &[u8], kind: u64, c: Cursor) -> Result<Cursor, Refu
     zeros_check(s, unused_of(kind), c2)
 }
 
-// It is inlined, with what it calls but `operands_check`, since an answer is three words, which a call would hand back in memory.
+// It is inlined, and so are most of its parts, since an answer is three words, which a call would hand back in memory.
 #[inline(always)]
 #[tactic(auto, unfolding(crate::specs::Layout::instr_in))]
 pub fn instr_check(e: Edition, s: &[u8], c: Cursor) -> Result<Cursor, Refused>

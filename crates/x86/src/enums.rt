@@ -16,7 +16,7 @@ pub enum Size {
     U64,
 }
 
-// The bytes are 0, 1, 2, 4 or 8. They are no numbers of the variants, since numbers with gaps become a table or a jump wherever a record is written.
+// The bytes are 0, 1, 2, 4 or 8. Were these the numbers of the variants, each writer of a record would have a table, or a jump and a copy of itself for each.
 impl From<Size> for u64 {
     ghost from_gives = { λ size n. n ≡ size_code size };
 
