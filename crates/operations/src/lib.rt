@@ -30,7 +30,7 @@ pub enum Middle {
 }
 
 // Right's look-up is the caller's, since right is loaded too, or is an operand of the operation itself. Its refusal counts behind left's.
-// It is inlined, since what it finds and `right` would go through memory.
+// This function is inlined, since `right` and what it finds would go through memory.
 #[inline(always)]
 fn look_sides(
     context: &Context,
